@@ -1,0 +1,4 @@
+pub mod Bytes
+pub mod Grid
+pub mod Key
+pub mod Name

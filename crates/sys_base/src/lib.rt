@@ -1,0 +1,14 @@
+//! What every layer shares: want of memory, names, the grid, and small enumerations.
+#![tactic(auto)]
+
+mod grid;
+mod key;
+mod kinds;
+mod memory;
+mod name;
+
+pub use grid::Grid;
+pub use key::Key;
+pub use kinds::{Dir, Kind, Limit, Op};
+pub use memory::Memory;
+pub use name::Name;
