@@ -2,9 +2,8 @@ ghost use Rattle.std.specs.Prelude.{◌≡◌, ℕ, ◌+◌, ◌*◌, ◌<◌, �
 ghost use Rattle.std.specs.Option.{SomeIff, option_map};
 ghost use Rattle.sys_base.specs.Grid.{Extent, IsExtent, cell_count, cell_at, IsInside, neighbour_of, link_id};
 
-use std::marker::Model;
-
 use crate::kinds::Dir;
+use std::marker::Model;
 
 /// The most rows, and the most columns, of a grid.
 pub const SIDE: u64 = 16;

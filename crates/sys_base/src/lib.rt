@@ -1,6 +1,7 @@
 //! What every layer shares: want of memory, names, the grid, and small enumerations.
 #![tactic(auto)]
 
+pub mod bytes;
 mod grid;
 mod key;
 mod kinds;
@@ -11,4 +12,7 @@ pub use grid::Grid;
 pub use key::Key;
 pub use kinds::{Dir, Kind, Limit, Op};
 pub use memory::Memory;
-pub use name::Name;
+pub use name::{NAME_BYTES, Name};
+
+#[cfg(test)]
+mod tests;

@@ -1,12 +1,11 @@
 ghost use Rattle.std.specs.Prelude.{◌≡◌, ℕ, ◌↔◌, List, IsTrue, IsSome, IfSome, IfOk};
-ghost use Rattle.sys_base.specs.Bytes.{is_letter, is_word_byte};
 ghost use Rattle.sys_base.specs.Name.{IsName, IsWord};
 
-use std::alloc::Global;
-use std::marker::Model;
-
+use crate::bytes::{is_letter, is_word_byte};
 use crate::key::Key;
 use crate::memory::Memory;
+use std::alloc::Global;
+use std::marker::Model;
 
 /// The most bytes that a name has.
 pub const NAME_BYTES: usize = 32;
@@ -71,16 +70,4 @@ fn is_word(bytes: &[u8]) -> bool
         [] => false,
         [first, ..] => is_letter(*first) && bytes.iter().all(|b| is_word_byte(*b)),
     }
-}
-
-fn is_letter(byte: u8) -> bool
-    ensures { result ≡ is_letter byte }
-{
-    byte.is_ascii_alphabetic() || byte == b'_'
-}
-
-fn is_word_byte(byte: u8) -> bool
-    ensures { result ≡ is_word_byte byte }
-{
-    is_letter(byte) || byte.is_ascii_digit()
 }

@@ -1,0 +1,37 @@
+use crate::{Dir, Grid, Name};
+use std::test::Fail;
+
+#[test]
+fn names(rt: HostRuntime) -> Result<(), Fail> {
+    let table = [
+        ("A", true),
+        ("_x1", true),
+        ("N", true),
+        ("abcdefghijklmnopqrstuvwxyz012345", true),
+        ("abcdefghijklmnopqrstuvwxyz0123456", false),
+        ("", false),
+        ("1a", false),
+        ("a.b", false),
+        ("buffer", false),
+        ("buffers", true),
+    ];
+    for (text, is_name) in table {
+        let name = Name::new(rt.alloc(), text.as_bytes()).ok().ok_or("memory")?;
+        assert_eq!(rt; name.is_some(), is_name, "{text}");
+        if let Some(name) = name {
+            let copy = name.copy(rt.alloc()).ok().ok_or("memory")?;
+            assert_eq!(rt; copy.bytes(), text.as_bytes());
+        }
+    }
+    Ok(())
+}
+
+#[test]
+fn links(rt: HostRuntime) -> Result<(), Fail> {
+    let grid = Grid::new(1, 3).ok_or("no grid")?;
+    assert_eq!(rt; grid.cells(), 3);
+    assert_eq!(rt; grid.cell(0, 2), Some(2));
+    assert_eq!(rt; grid.link(1, Dir::E).ok_or("no link")?, 5);
+    assert_eq!(rt; grid.neighbour(1, Dir::S), None);
+    Ok(())
+}
