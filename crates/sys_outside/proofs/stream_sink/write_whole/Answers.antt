@@ -1,0 +1,16 @@
+use Rattle.std.proofs.Common.{arith, ◌≡◌, ◌-◌, length, take, drop}
+use Rattle.std.proofs.lemmas.List.{take_rest}
+use Rattle.std.proofs.lemmas.Grind.{common_steps}
+use Rattle.sys_outside.proofs.Written.{written_more}
+use Rattle.sys_outside.proofs.stream_sink.write_whole.Goals as goal
+
+pub loop-preserved : goal.loop-preserved
+loop-preserved g c =
+    let rest = c.loop.rest.now in
+    let n = c.in-Ok.count in
+    let left : take (length rest - n) (drop n rest) ≡ drop n rest = take_rest rest n in
+    let contents = g.W.Write.contents in
+    record {
+      taken = grind (arith, common_steps);
+      written = written_more (contents c.args.writer.now) (contents c.loop.writer) (contents c.write.new.self) c.args.bytes.now c.loop.invariant.written.0 rest _ n c.loop.invariant.written.1 left c.loop.invariant.written.2 c.in-Ok.ensures.bytes;
+    }
