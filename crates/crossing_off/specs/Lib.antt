@@ -1,0 +1,5 @@
+pub mod Crossing
+pub mod Greedy
+pub mod Answer
+pub mod Ends
+pub mod Worklist
