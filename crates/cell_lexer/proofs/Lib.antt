@@ -1,0 +1,14 @@
+pub mod ByteKinds
+pub mod Fronts
+pub mod GapSteps
+pub mod LongestForm
+pub mod OneForm
+pub mod OneGap
+pub mod OneOutcome
+pub mod Outcomes
+pub mod Prolonging
+pub mod ReadBack
+pub mod Spellings
+pub mod Standing
+pub mod TextLines
+pub mod Values

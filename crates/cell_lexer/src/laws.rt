@@ -1,0 +1,31 @@
+ghost use Rattle.std.specs.Prelude.{◌≡◌, ℕ, ◌≤◌, false, List, map, decimal, IsTrue};
+ghost use Rattle.sys_base.specs.Bytes.{is_space};
+ghost use Rattle.cell_lexer.specs.declared.error.LexError.{LexError};
+ghost use Rattle.cell_lexer.specs.declared.token.Sort.{Sort};
+ghost use Rattle.cell_lexer.specs.declared.token.Token.{Token};
+ghost use Rattle.cell_lexer.specs.Faults.{FirstFault};
+ghost use Rattle.cell_lexer.specs.Forms.{Says, greatest};
+ghost use Rattle.cell_lexer.specs.Pieces.{Piece, text_of, prolongs, Legible, placed, words_of, words_in, lines_from};
+ghost use Rattle.cell_lexer.specs.Tokens.{TokensOf};
+
+/// A law: a text has one list of tokens or one first fault, never two of either and never both.
+pub fn one_outcome()
+    ensures tokens { (text : List ℕ) (ts us : List Token) → TokensOf text ts → TokensOf text us → ts ≡ us }
+    ensures faults { (text : List ℕ) (e f : LexError) → FirstFault text e → FirstFault text f → e ≡ f }
+    ensures apart { (text : List ℕ) (ts : List Token) (e : LexError) → TokensOf text ts → FirstFault text e → ⊥ }
+{}
+
+/// A law: a text that is joined of words and blank gaps, where nothing behind a word makes it longer, has just these words
+/// as its tokens, on the lines that the gaps lead to.
+pub fn read_back()
+    ensures tokens { (ps : List Piece) (last : List ℕ) → Legible ps last
+        → TokensOf (text_of ps last) (placed (text_of ps last) 0 ps) }
+    ensures words { (ps : List Piece) (last : List ℕ)
+        → words_of (text_of ps last) (placed (text_of ps last) 0 ps) ≡ words_in ps }
+    ensures lines { (ps : List Piece) (last : List ℕ) → Legible ps last
+        → map (λ (t : Token). t.line) (placed (text_of ps last) 0 ps) ≡ lines_from 1 ps }
+
+    // What helps to show that a text is legible: a separator ends each word, and decimals are numbers.
+    ensures separators { (sort : Sort) (b : ℕ) → IsTrue (is_space b) → prolongs sort b ≡ false }
+    ensures decimals { (n : ℕ) → n ≤ greatest → Says (decimal n) (Sort.Number n) }
+{}
