@@ -1,0 +1,5 @@
+pub mod BlockSteps
+pub mod Joined
+pub mod PrintableExamples
+pub mod SourceSteps
+pub mod Steps

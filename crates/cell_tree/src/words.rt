@@ -1,0 +1,35 @@
+ghost use Rattle.std.specs.Prelude.{◌≡◌, ◌++◌, OnOk};
+ghost use Rattle.std.specs.Fmt.{decimal};
+ghost use Rattle.cell_tree.specs.Pieces.{joined, after, line};
+
+use itoa::Buffer;
+use sys_base::Memory;
+
+/// Writes a word after some white space.
+pub fn write_word(out: &mut Vec<u8>, gap: &[u8], word: &[u8]) -> Result<(), Memory>
+    ensures { OnOk result (out.new.items ≡ out.old.items ++ joined (after gap.now word.now)) }
+{
+    out.extend_from_slice(gap)?;
+    out.extend_from_slice(word)?;
+    Ok(())
+}
+
+/// Writes a number after some white space.
+pub fn write_number(out: &mut Vec<u8>, gap: &[u8], number: u64) -> Result<(), Memory>
+    ensures { OnOk result (out.new.items ≡ out.old.items ++ joined (after gap.now (decimal number))) }
+{
+    let mut buffer = Buffer::new();
+    write_word(out, gap, buffer.format(number).as_bytes())
+}
+
+/// Writes the first word of a line that is inside so many open blocks.
+pub fn write_line(out: &mut Vec<u8>, depth: usize, word: &[u8]) -> Result<(), Memory>
+    ensures { OnOk result (out.new.items ≡ out.old.items ++ joined (after (line depth) word.now)) }
+{
+    out.push(b'\n')?;
+    for _ in 0..depth {
+        out.extend_from_slice(b"  ")?;
+    }
+    out.extend_from_slice(word)?;
+    Ok(())
+}
