@@ -1,0 +1,16 @@
+use Rattle.std.proofs.Common.{◌≡◌, ◌≤◌, ◌++◌, length}
+use Rattle.systole_top.specs.declared.straight.plan.Cell.{Cell}
+use Rattle.systole_top.specs.declared.straight.plan.Plan.{Plan}
+use Rattle.systole_top.specs.Words.{words_of}
+use Rattle.systole_top.specs.PlanMachine.{run}
+use Rattle.systole_top.specs.PlanMachine.State.{Body}
+use Rattle.systole_top.proofs.straight.reader.body.Given as goal
+
+abbrev pub invariant-each : goal.invariant-each
+invariant-each l = record {
+  comes : (p : Plan) (c : Cell) → run (Body p c) (words_of l.fn.text) ≡ run (Body p (record c { body = c.body ++ l.body })) (words_of l.rest);
+  shorter : length l.rest ≤ length l.fn.text;
+}
+
+abbrev pub decreases-each : goal.decreases-each
+decreases-each l = length l.rest

@@ -1,0 +1,90 @@
+-- What the top call promises.
+use Rattle.std.specs.Prelude.{ℕ, ◌≡◌, ◌⊎◌, ◌≢◌, ◌-◌, ◌^◌, ◌<◌, List, [], Option, None, Some, IsSome, Contains}
+use Rattle.std.specs.Io.KnownBytes.{Appends}
+use Rattle.sys_outside.specs.Fault.{Rose}
+use Rattle.systole_top.specs.Commands.{tree_of, files_of}
+use Rattle.systole_top.specs.Reply.{Reply, Outcome, status_of, outcome_of, usage, unread, no_memory}
+use Rattle.systole_top.specs.Shape.{Shape}
+use Rattle.systole_top.specs.Sides.{Stream, Reaches}
+use Rattle.systole_top.specs.Texts.{cannot_read}
+use Rattle.systole_top.specs.Tree.{Replies, Comes, Tries}
+use Rattle.systole_top.specs.declared.answer.Verdict.{Verdict}
+use Rattle.systole_top.specs.declared.status.Status.{Status}
+
+-- ---- the answer
+
+-- The answer to words of this shape, or of none, over files whose bytes are told. There is no answer where a file that is
+-- wanted isn't told.
+abbrev pub IsAnswer : Option Shape → (List ℕ → Option (List ℕ)) → Outcome → Type 0
+IsAnswer None held a = a ≡ usage
+IsAnswer (Some s) held a = (r : Reply) × Replies held (tree_of s) r × (a ≡ outcome_of r)
+
+-- ---- what the call says
+
+-- The words name this file.
+abbrev pub Names : Option Shape → List ℕ → Type 0
+Names None name = ⊥
+Names (Some s) name = Contains (files_of s) name
+
+-- The file is tried after all that comes before it passed.
+abbrev pub TriesFile : Option Shape → (List ℕ → Option (List ℕ)) → List ℕ → Type 0
+TriesFile None held name = ⊥
+TriesFile (Some s) held name = Tries held (tree_of s) name
+
+-- A file that the words name can't be read, after all that comes before it passed: its count of faults rose.
+pub record IsUnread (asked : Option Shape) (held : List ℕ → Option (List ℕ)) (before now : List ℕ → ℕ) (name : List ℕ) : Type 0 where
+  pub named : Names asked name
+  pub tried : TriesFile asked held name
+  pub rose : Rose (before name) (now name)
+
+-- The outcome is that of words that are no command; or a reply that comes of some bytes of the files; or that of a file
+-- that can't be read; or that of want of memory.
+abbrev pub May : Option Shape → (List ℕ → Option (List ℕ)) → (List ℕ → ℕ) → (List ℕ → ℕ) → Outcome → Type 0
+May None held before now t = t ≡ usage
+May (Some s) held before now t =
+    ((r : Reply) × Comes held (tree_of s) r × (t ≡ outcome_of r))
+    ⊎ ((name : List ℕ) × Tries held (tree_of s) name × Rose (before name) (now name) × (t ≡ unread (cannot_read name)))
+    ⊎ (t ≡ no_memory)
+
+-- The call told one outcome that it may tell, and it reached the sinks.
+pub record Tells (asked : Option Shape) (held : List ℕ → Option (List ℕ)) (before now : List ℕ → ℕ) (out err : Stream) (status : Status) : Type 0 where
+  pub told : Outcome
+  pub may : May asked held before now told
+  pub reaches : Reaches out err told status
+
+-- Where the words have an answer over the told files, it reached the sinks; or a file couldn't be read, or memory ran out,
+-- and that did.
+abbrev pub Answers : Option Shape → (List ℕ → Option (List ℕ)) → (List ℕ → ℕ) → (List ℕ → ℕ) → Stream → Stream → Status → Type 0
+Answers asked held before now out err status =
+    (a : Outcome) → IsAnswer asked held a
+    → Reaches out err a status
+    ⊎ ((name : List ℕ) × IsUnread asked held before now name × Reaches out err (unread (cannot_read name)) status)
+    ⊎ Reaches out err no_memory status
+
+-- Where all files that the words name are told, a verdict is that of the answer, which is on the sinks.
+abbrev pub Judges : Option Shape → (List ℕ → Option (List ℕ)) → Stream → Stream → Status → Type 0
+Judges asked held out err status =
+    (v : Verdict) → status ≡ status_of v → ((name : List ℕ) → Names asked name → IsSome (held name))
+    → (a : Outcome) × IsAnswer asked held a × (a.status ≡ status) × Appends out.told_before out.told_now a.out × Appends err.told_before err.told_now a.err
+
+-- Words with no shape are a faulty command line, unless a put failed or memory ran out; others never are.
+abbrev pub UsageCause : Option Shape → Status → Type 0
+UsageCause None status = (status ≡ Status.Usage) ⊎ (status ≡ Status.WriteFault) ⊎ (status ≡ Status.Memory)
+UsageCause (Some s) status = status ≢ Status.Usage
+
+-- A file that the words name couldn't be read, and the line on it is all that was put.
+abbrev pub ReadCause : Option Shape → (List ℕ → Option (List ℕ)) → (List ℕ → ℕ) → (List ℕ → ℕ) → Stream → Stream → Type 0
+ReadCause asked held before now out err =
+    (name : List ℕ) × IsUnread asked held before now name × Appends out.told_before out.told_now [] × Appends err.told_before err.told_now (cannot_read name)
+
+-- A count of faults stood still below its last value.
+abbrev pub StoodStill : ℕ → ℕ → Type 0
+StoodStill before now = (now ≡ before) × (before < 2 ^ 64 - 1)
+
+-- Where no count of the words' files or of the sinks rose, the status is the answer's, or memory ran out.
+abbrev pub Completes : Option Shape → (List ℕ → Option (List ℕ)) → (List ℕ → ℕ) → (List ℕ → ℕ) → Stream → Stream → Status → Type 0
+Completes asked held before now out err status =
+    (a : Outcome) → IsAnswer asked held a
+    → ((name : List ℕ) → Names asked name → StoodStill (before name) (now name))
+    → StoodStill out.faults_before out.faults_now → StoodStill err.faults_before err.faults_now
+    → (status ≡ a.status) ⊎ (status ≡ Status.Memory)

@@ -1,0 +1,17 @@
+pub mod Words
+pub mod Straight
+pub mod PlanMachine
+pub mod PlanReading
+pub mod Reading
+pub mod Resolving
+pub mod Judgement
+pub mod Only
+pub mod Texts
+pub mod Shape
+pub mod Reply
+pub mod Tree
+pub mod Runs
+pub mod Stops
+pub mod Commands
+pub mod Sides
+pub mod Causes

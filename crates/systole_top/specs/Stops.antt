@@ -1,0 +1,41 @@
+-- What contracts see of a command's code.
+use Rattle.std.specs.Prelude.{ℕ, List, [], Result, Ok, Err, Vec}
+use Rattle.std.specs.Global.{Global}
+use Rattle.systole_top.specs.Reply.{Reply, Outcome, outcome_of, unread, no_memory}
+use Rattle.systole_top.specs.Runs.{Halt, Said, Unread, NoMemory, End, Gave, Stopped}
+use Rattle.systole_top.specs.declared.answer.Side.{Side}
+use Rattle.systole_top.specs.declared.answer.Answer.{Answer}
+use Rattle.systole_top.specs.declared.answer.Stop.{Stop}
+
+-- the bytes of a list
+abbrev pub bytes_of : Vec ℕ Global → List ℕ
+bytes_of bytes = bytes.items
+
+-- the bytes that go to standard output, and those that go to standard error
+abbrev pub on_out : Side → List ℕ → List ℕ
+on_out Side.Out text = text
+on_out Side.Err text = []
+
+abbrev pub on_err : Side → List ℕ → List ℕ
+on_err Side.Out text = []
+on_err Side.Err text = text
+
+abbrev pub reply_of : Answer → Reply
+reply_of a = record { verdict = a.verdict; out = on_out a.side a.text.items; err = on_err a.side a.text.items }
+
+abbrev pub halt_of : Stop → Halt
+halt_of (Stop.Says answer) = Said (reply_of answer)
+halt_of (Stop.Unread line) = Unread line.items
+halt_of Stop.Memory = NoMemory
+
+-- how a step ended, with its value as `view` sees it
+abbrev pub ended : {X A : Type 0} → (X → A) → Result X Stop → End A
+ended view (Ok x) = Gave (view x)
+ended view (Err stop) = Stopped (halt_of stop)
+
+-- what a command's end tells
+abbrev pub told_by : Result Answer Stop → Outcome
+told_by (Ok answer) = outcome_of (reply_of answer)
+told_by (Err (Stop.Says answer)) = outcome_of (reply_of answer)
+told_by (Err (Stop.Unread line)) = unread line.items
+told_by (Err Stop.Memory) = no_memory

@@ -1,0 +1,94 @@
+ghost use Rattle.std.specs.Prelude.{◌≡◌, ◌≤◌, length, IfOk, IfSome};
+ghost use Rattle.std.specs.Option.{option_map};
+ghost use Rattle.systole_top.specs.Commands.{judgement_of, judged, passes, accepted, check_reply, refused_reply, tree_of};
+ghost use Rattle.systole_top.specs.Runs.{Steps, Shows};
+ghost use Rattle.systole_top.specs.Shape.{Check};
+ghost use Rattle.systole_top.specs.Stops.{bytes_of, ended, reply_of};
+ghost use Rattle.systole_top.specs.Texts.{accepted_line};
+ghost use Rattle.systole_top.specs.Tree.{Gives};
+
+use crate::answer::{Answer, Side, Stop, Verdict};
+use crate::judgement::{Judgement, Refusal, judge};
+use crate::read::read_file;
+use crate::refusal::refusal_line;
+use std::alloc::{AllocError, Global};
+use sys_outside::Shelf;
+
+/// The most bytes that a source has.
+pub const SOURCE_BYTES: usize = 1_048_576;
+
+/// `check F`: whether the source is accepted.
+#[tactic(auto, using(crate::proofs::Trees::step_stop))]
+pub fn check<S: Shelf>(alloc: Global, shelf: &mut S, file: &str) -> Result<Answer, Stop>
+    ensures { Steps (S.held shelf.old) (S.held shelf.new) (S.faults shelf.old) (S.faults shelf.new)
+        (tree_of (Check file.now)) (ended reply_of result) }
+{
+    accepted(alloc, shelf, file)?;
+    check_reply(alloc)
+}
+
+fn check_reply(alloc: Global) -> Result<Answer, Stop>
+    ensures { Shows (Gives check_reply) (ended reply_of result) }
+{
+    Ok(Answer {
+        verdict: Verdict::Done,
+        side: Side::Out,
+        text: accepted_line(alloc)?,
+    })
+}
+
+// Reads a source that is accepted. Its refusal ends the command, in one line.
+#[tactic(auto, using(crate::proofs::Trees::step_stop))]
+fn accepted<S: Shelf>(alloc: Global, shelf: &mut S, file: &str) -> Result<(), Stop>
+    ensures { Steps (S.held shelf.old) (S.held shelf.new) (S.faults shelf.old) (S.faults shelf.new)
+        (accepted file.now) (ended (λ x. x) result) }
+{
+    let judgement = judged(alloc, shelf, file)?;
+    passes(alloc, judgement)
+}
+
+fn passes(alloc: Global, judgement: Judgement) -> Result<(), Stop>
+    ensures { Shows (passes judgement) (ended (λ x. x) result) }
+{
+    match judgement {
+        Judgement::Accepted => Ok(()),
+        Judgement::Refused(refusal) => Err(Stop::Says(refused(alloc, refusal)?)),
+    }
+}
+
+fn refused(alloc: Global, refusal: Refusal) -> Result<Answer, AllocError>
+    ensures { IfOk result (λ a. reply_of a ≡ refused_reply refusal) }
+{
+    Ok(Answer {
+        verdict: Verdict::Refused,
+        side: Side::Err,
+        text: refusal_line(alloc, refusal)?,
+    })
+}
+
+// Reads a source and judges it.
+#[tactic(auto, using(crate::proofs::Trees::step_stop))]
+fn judged<S: Shelf>(alloc: Global, shelf: &mut S, file: &str) -> Result<Judgement, Stop>
+    ensures { Steps (S.held shelf.old) (S.held shelf.new) (S.faults shelf.old) (S.faults shelf.new)
+        (judged file.now) (ended (λ x. x) result) }
+{
+    let text = read_file(alloc, shelf, file, SOURCE_BYTES)?;
+    judgement_of(alloc, text)
+}
+
+fn judgement_of(alloc: Global, text: Option<Vec<u8>>) -> Result<Judgement, Stop>
+    requires { IfSome text (λ bytes. length bytes.items ≤ SOURCE_BYTES) }
+    ensures { Shows (judgement_of (option_map bytes_of text)) (ended (λ x. x) result) }
+{
+    match text {
+        None => Ok(Judgement::Refused(Refusal::LongSource)),
+        Some(text) => Ok(judge(alloc, &text)?),
+    }
+}
+
+#[tactic(auto, unfolding(crate::specs::Texts::accepted_line))]
+fn accepted_line(alloc: Global) -> Result<Vec<u8>, AllocError>
+    ensures { IfOk result (λ line. line.items ≡ accepted_line) }
+{
+    Vec::from_slice(alloc, b"accepted\n")
+}

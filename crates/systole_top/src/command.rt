@@ -1,0 +1,24 @@
+ghost use Rattle.systole_top.specs.Commands.{tree_of};
+ghost use Rattle.systole_top.specs.Runs.{Steps};
+ghost use Rattle.systole_top.specs.Shape.{seen};
+ghost use Rattle.systole_top.specs.Stops.{ended, reply_of};
+
+use crate::answer::{Answer, Stop};
+use crate::check::check;
+use crate::words::Command;
+use std::alloc::Global;
+use sys_outside::Shelf;
+
+/// The answer to a command.
+pub fn answer_command<S: Shelf>(
+    alloc: Global,
+    shelf: &mut S,
+    command: Command<'_>,
+) -> Result<Answer, Stop>
+    ensures { Steps (S.held shelf.old) (S.held shelf.new) (S.faults shelf.old) (S.faults shelf.new)
+        (tree_of (seen command.entry)) (ended reply_of result) }
+{
+    match command {
+        Command::Check(file) => check(alloc, shelf, file),
+    }
+}

@@ -1,0 +1,19 @@
+//! The commands of Systole, and the call that answers them.
+#![tactic(auto)]
+
+mod answer;
+mod check;
+mod command;
+mod judgement;
+mod read;
+mod refusal;
+mod say;
+mod status;
+mod straight;
+#[cfg(test)]
+mod tests;
+mod top;
+mod words;
+
+pub use status::Status;
+pub use top::systole;

@@ -1,0 +1,74 @@
+ghost use Rattle.std.specs.Prelude.{◌≡◌};
+ghost use Rattle.systole_top.specs.Reply.{outcome_of, status_of};
+ghost use Rattle.systole_top.specs.Sides.{PutsOn, Reaches, stream};
+ghost use Rattle.systole_top.specs.Stops.{reply_of, told_by};
+ghost use Rattle.systole_top.specs.Texts.{usage_line, out_of_memory};
+
+use crate::answer::{Answer, Side, Stop, Verdict};
+use crate::status::Status;
+use sys_outside::{Sink, SinkError};
+
+/// Puts an answer, or why there is none.
+#[tactic(auto, using(crate::proofs::Reaching::reaches_out, crate::proofs::Reaching::reaches_err))]
+pub fn say<O: Sink, E: Sink>(answer: Result<Answer, Stop>, out: &mut O, err: &mut E) -> Status
+    ensures { Reaches (stream (O.taken out.old) (O.taken out.new) (O.faults out.old) (O.faults out.new))
+        (stream (E.taken err.old) (E.taken err.new) (E.faults err.old) (E.faults err.new)) (told_by answer) result }
+{
+    match answer {
+        Ok(answer) => say_answer(&answer, out, err),
+        Err(Stop::Says(answer)) => say_answer(&answer, out, err),
+        Err(Stop::Unread(line)) => put(err, &line, Status::ReadFault),
+        Err(Stop::Memory) => say_no_memory(err),
+    }
+}
+
+#[tactic(auto, using(crate::proofs::Reaching::reaches_out, crate::proofs::Reaching::reaches_err))]
+fn say_answer<O: Sink, E: Sink>(answer: &Answer, out: &mut O, err: &mut E) -> Status
+    ensures { Reaches (stream (O.taken out.old) (O.taken out.new) (O.faults out.old) (O.faults out.new))
+        (stream (E.taken err.old) (E.taken err.new) (E.faults err.old) (E.faults err.new))
+        (outcome_of (reply_of answer.now)) result }
+{
+    let status = status_of(answer.verdict);
+    match answer.side {
+        Side::Out => put(out, &answer.text, status),
+        Side::Err => put(err, &answer.text, status),
+    }
+}
+
+fn status_of(verdict: Verdict) -> Status
+    ensures { result ≡ status_of verdict }
+{
+    match verdict {
+        Verdict::Done => Status::Done,
+        Verdict::Refused => Status::Refused,
+    }
+}
+
+/// Says that the words are no command.
+#[tactic(auto, unfolding(crate::specs::Texts::usage_line))]
+pub fn say_usage<E: Sink>(err: &mut E) -> Status
+    ensures { PutsOn (stream (E.taken err.old) (E.taken err.new) (E.faults err.old) (E.faults err.new))
+        usage_line Status.Usage result }
+{
+    put(err, b"usage: systole COMMAND WORDS\n", Status::Usage)
+}
+
+#[tactic(auto, unfolding(crate::specs::Texts::out_of_memory))]
+fn say_no_memory<E: Sink>(err: &mut E) -> Status
+    ensures { PutsOn (stream (E.taken err.old) (E.taken err.new) (E.faults err.old) (E.faults err.new))
+        out_of_memory Status.Memory result }
+{
+    put(err, b"out of memory\n", Status::Memory)
+}
+
+// Puts a text in one piece. Nothing is put after it, whatever comes of it.
+fn put<S: Sink>(sink: &mut S, text: &[u8], status: Status) -> Status
+    ensures { PutsOn (stream (S.taken sink.old) (S.taken sink.new) (S.faults sink.old) (S.faults sink.new))
+        text.now status result }
+{
+    match sink.put(text) {
+        Ok(()) => status,
+        Err(SinkError::Failed) => Status::WriteFault,
+        Err(SinkError::Memory) => Status::Memory,
+    }
+}

@@ -1,0 +1,155 @@
+use crate::{Status, systole};
+use std::alloc::Global;
+use std::test::Fail;
+use sys_outside::{MemShelf, MemSink, SureShelf, SureSink};
+
+fn words(alloc: Global, texts: &[&str]) -> Result<Vec<String>, Fail> {
+    let mut words = Vec::new(alloc);
+    for text in texts {
+        words.push(String::from_str(alloc, text)?)?;
+    }
+    Ok(words)
+}
+
+#[test]
+fn words_with_no_shape_are_usage(rt: HostRuntime) -> Result<(), Fail> {
+    let alloc = rt.alloc();
+    let lines: [&[&str]; 5] = [
+        &[],
+        &["check"],
+        &["check", ""],
+        &["run", "F"],
+        &["check", "F", "G"],
+    ];
+    for texts in lines {
+        let mut shelf = SureShelf::new(Vec::new(alloc));
+        let (mut out, mut err) = (SureSink::new(alloc), SureSink::new(alloc));
+        let status = systole(alloc, &words(alloc, texts)?, &mut shelf, &mut out, &mut err);
+        assert_eq!(rt; status, Status::Usage);
+        assert_eq!(rt; out.bytes(), b"".as_slice());
+        assert_eq!(rt; err.bytes(), b"usage: systole COMMAND WORDS\n".as_slice());
+    }
+    Ok(())
+}
+
+// Asks for a file that isn't there, over an `err` of which the first put may fail.
+fn miss(alloc: Global, failing: Vec<(u32, usize)>) -> Result<(Status, SureSink, MemSink), Fail> {
+    let mut shelf = MemShelf::new(Vec::new(alloc), Vec::new(alloc));
+    let (mut out, mut err) = (SureSink::new(alloc), MemSink::new(alloc, failing));
+    let status = systole(
+        alloc,
+        &words(alloc, &["check", "G"])?,
+        &mut shelf,
+        &mut out,
+        &mut err,
+    );
+    Ok((status, out, err))
+}
+
+#[test]
+fn missing_file_is_a_read_fault(rt: HostRuntime) -> Result<(), Fail> {
+    let alloc = rt.alloc();
+    let (status, out, err) = miss(alloc, Vec::new(alloc))?;
+    assert_eq!(rt; status, Status::ReadFault);
+    assert_eq!(rt; out.bytes(), b"".as_slice());
+    assert_eq!(rt; err.bytes(), b"cannot read G\n".as_slice());
+    Ok(())
+}
+
+// A text is put in one piece, and nothing after a put that failed.
+#[test]
+fn failing_put_is_a_write_fault(rt: HostRuntime) -> Result<(), Fail> {
+    let alloc = rt.alloc();
+    for (count, taken) in [(0, ""), (4, "cann")] {
+        let (status, out, err) = miss(alloc, vec![in alloc; (0, count)]?)?;
+        assert_eq!(rt; status, Status::WriteFault);
+        assert_eq!(rt; out.bytes(), b"".as_slice());
+        assert_eq!(rt; err.bytes(), taken.as_bytes());
+    }
+    Ok(())
+}
+
+const PIPE: &[u8] =
+    b"array 1 x 2; queues 1; message A from 0.0 to 0.1; cell 0.0 { write A 7; } cell 0.1 { var x; read A x; emit x; }";
+
+const CROSSED: &[u8] =
+    b"array 1 x 2; queues 1; message A from 0.0 to 0.1; message B from 0.0 to 0.1; cell 0.0 { write A 1; write B 2; } cell 0.1 { var x; read B x; read A x; }";
+
+// Checks a source over an `out` of which the first put may fail.
+fn check(
+    alloc: Global,
+    source: Vec<u8>,
+    failing: Vec<(u32, usize)>,
+) -> Result<(Status, MemSink, SureSink), Fail> {
+    let mut files = Vec::new(alloc);
+    files.push((String::from_str(alloc, "F")?, source))?;
+    let mut shelf = SureShelf::new(files);
+    let (mut out, mut err) = (MemSink::new(alloc, failing), SureSink::new(alloc));
+    let words = words(alloc, &["check", "F"])?;
+    let status = systole(alloc, &words, &mut shelf, &mut out, &mut err);
+    Ok((status, out, err))
+}
+
+#[test]
+fn sources_are_accepted_or_refused(rt: HostRuntime) -> Result<(), Fail> {
+    let alloc = rt.alloc();
+    let table: [(&[u8], Status, &str, &str); 4] = [
+        (PIPE, Status::Done, "accepted\n", ""),
+        (
+            CROSSED,
+            Status::Refused,
+            "",
+            "E30 crossing-off leaves 4 operations\n",
+        ),
+        (b"", Status::Refused, "", "E00 not a straight source\n"),
+        (
+            b"array 1 x 2; queues 1; cell 0.2 { }",
+            Status::Refused,
+            "",
+            "E00 not a straight source\n",
+        ),
+    ];
+    for (source, wanted, on_out, on_err) in table {
+        let (status, out, err) = check(alloc, source.to_vec(alloc)?, Vec::new(alloc))?;
+        assert_eq!(rt; status, wanted);
+        assert_eq!(rt; out.bytes(), on_out.as_bytes());
+        assert_eq!(rt; err.bytes(), on_err.as_bytes());
+    }
+    Ok(())
+}
+
+#[test]
+fn longest_source_is_read(rt: HostRuntime) -> Result<(), Fail> {
+    let alloc = rt.alloc();
+    let table = [
+        (1_048_576, Status::Done, ""),
+        (
+            1_048_577,
+            Status::Refused,
+            "E05 the source has more than 1048576 bytes\n",
+        ),
+    ];
+    for (size, wanted, on_err) in table {
+        let mut source = PIPE.to_vec(alloc)?;
+        source.resize(size, b' ')?;
+        let (status, _, err) = check(alloc, source, Vec::new(alloc))?;
+        assert_eq!(rt; status, wanted);
+        assert_eq!(rt; err.bytes(), on_err.as_bytes());
+    }
+    Ok(())
+}
+
+#[test]
+fn failing_put_takes_a_part_of_the_answer(rt: HostRuntime) -> Result<(), Fail> {
+    let alloc = rt.alloc();
+    for taken in [
+        "", "a", "ac", "acc", "acce", "accep", "accept", "accepte", "accepted",
+    ] {
+        let failing = vec![in alloc; (0, taken.len())]?;
+        let (status, out, err) = check(alloc, PIPE.to_vec(alloc)?, failing)?;
+        assert_eq!(rt; status, Status::WriteFault);
+        assert_eq!(rt; out.bytes(), taken.as_bytes());
+        assert_eq!(rt; err.bytes(), b"".as_slice());
+    }
+    Ok(())
+}

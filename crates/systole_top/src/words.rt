@@ -1,0 +1,28 @@
+ghost use Rattle.std.specs.Prelude.{◌≡◌, [], ◌∷◌, map, string_bytes};
+ghost use Rattle.std.specs.Option.{option_map};
+ghost use Rattle.systole_top.specs.Shape.{shape, seen};
+
+/// A command, with its words.
+#[derive(Clone, Copy)]
+pub enum Command<'a> {
+    Check(&'a str),
+}
+
+/// Reads the words of a command line; `None` where they are no command.
+pub fn read_words(words: &[String]) -> Option<Command<'_>>
+    ensures { option_map seen result ≡ shape (map string_bytes words.now) }
+{
+    match words {
+        [command, file] => read_pair(command.as_str(), file.as_str()),
+        _ => None,
+    }
+}
+
+fn read_pair<'a>(command: &str, file: &'a str) -> Option<Command<'a>>
+    ensures { option_map seen result ≡ shape (command.now ∷ file.now ∷ []) }
+{
+    if command == "check" && !file.is_empty() {
+        return Some(Command::Check(file));
+    }
+    None
+}
