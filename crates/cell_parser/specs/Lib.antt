@@ -1,0 +1,4 @@
+pub mod FirstWrong
+pub mod Grammar
+pub mod Lexeme
+pub mod Machine
