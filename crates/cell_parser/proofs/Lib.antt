@@ -1,8 +1,22 @@
 pub mod Backward
+pub mod DeclarationSteps
 pub mod Endings
-mod Examples
+pub mod Examples
 pub mod FirstWrongs
 pub mod Forward
 pub mod Outcomes
+pub mod Overs
+pub mod Refusals
+pub mod SaidExpressions
+pub mod SaidSources
+pub mod SaidStatements
+pub mod SaidWords
 pub mod Sentences
+pub mod Steps
+pub mod Tokens
+pub mod ToldClear
+pub mod ToldLegible
+pub mod ToldPieces
+pub mod ToldReadBack
+pub mod Unlined
 pub mod Words

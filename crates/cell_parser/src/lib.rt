@@ -1,6 +1,24 @@
 //! The parser of the cell language: from the tokens of a text to its syntax tree.
 #![tactic(auto)]
 
+mod cursor;
+mod declaration;
+mod error;
+mod expression;
+mod fault;
 mod laws;
+mod laws_printed;
+mod limits;
+mod operator;
+mod parsing;
+mod parts;
+mod program;
+mod statement;
 
+pub use error::ParseError;
 pub use laws::{one_first_wrong, one_program};
+pub use laws_printed::{lines_are_not_printed, printed_is_in_the_grammar, printed_text_reads_back};
+pub use parsing::parse;
+
+#[cfg(test)]
+mod tests;

@@ -1,0 +1,8 @@
+use Rattle.cell_parser.proofs.Refusals.{only_read, only_over}
+use Rattle.cell_parser.proofs.parsing.parse.Goals as goal
+
+pub returns-clause-only : goal.returns-clause-only
+returns-clause-only c = only_read c.args.text.now c.args.tokens.now _ c.limited.ensures.read c.limited.ensures.refused
+
+pub returns-clause-only_over : goal.returns-clause-only_over
+returns-clause-only_over c = only_over c.args.text.now c.args.tokens.now _ c.limited.ensures.read c.limited.ensures.refused
