@@ -37,10 +37,10 @@ use Rattle.cell_parser.specs.Told.{Told, Tell, tell, op_mark, Voiced, at_most, v
 use Rattle.cell_parser.proofs.SaidStatements.{tell_of}
 use Rattle.cell_parser.proofs.ToldLegible.{opens, gapped, Clear, join, choose, line_blank}
 
-abbrev Names : List (List ℕ) → Type 0
+abbrev pub Names : List (List ℕ) → Type 0
 Names = AllByRecursion IsName
 
-abbrev Numbers : List ℕ → Type 0
+abbrev pub Numbers : List ℕ → Type 0
 Numbers = AllByRecursion (λ n. n ≤ 9223372036854775807)
 
 front : {X : Type 0} (P : X → Type 0) (xs ys : List X) → AllByRecursion P (xs ++ ys) → AllByRecursion P xs
@@ -139,10 +139,10 @@ spaced_clear : (e : Expr) → Names (names_of e) → Numbers (numbers_of e) → 
 spaced_clear e ns ks = expression_clear e ns ks space false space_blank refl
 
 -- the names of what a statement does, and its numbers
-abbrev names_in : Act → List (List ℕ)
+abbrev pub names_in : Act → List (List ℕ)
 names_in = fold-Act (List (List ℕ)) (List (List ℕ)) act_names (λ statement. statement.act)
 
-abbrev numbers_in : Act → List ℕ
+abbrev pub numbers_in : Act → List ℕ
 numbers_in = fold-Act (List ℕ) (List ℕ) act_numbers (λ statement. statement.act)
 
 abbrev ClearAct : Uttered → List (List ℕ) → List ℕ → Type 0
@@ -163,13 +163,13 @@ StmtFact = (s : Stmt) × StmtClear s
 abbrev kept : List StmtFact → List Stmt
 kept items = map (λ (e : StmtFact). e.0) items
 
-abbrev body_names : List Stmt → List (List ℕ)
+abbrev pub body_names : List Stmt → List (List ℕ)
 body_names b = flat_map (λ (names : List (List ℕ)). names) (map statement_names b)
 
-abbrev body_numbers : List Stmt → List ℕ
+abbrev pub body_numbers : List Stmt → List ℕ
 body_numbers b = concat (map statement_numbers b)
 
-abbrev body_told : List Stmt → ℕ → List Told
+abbrev pub body_told : List Stmt → ℕ → List Told
 body_told b depth = flat_map (λ (u : Uttered). u depth) (map tell_statement b)
 
 body_clear : (items : List StmtFact) (depth : ℕ) → Names (body_names (kept items)) → Numbers (body_numbers (kept items))
@@ -483,7 +483,8 @@ cell_clear c ns ks =
       ),
     )
 
-source_words : (s : Source) → Names (source_names s) → Numbers (source_numbers s) → Clear true (told s) false
+-- the words of a source with names and numbers of the language are clear
+pub source_words : (s : Source) → Names (source_names s) → Numbers (source_numbers s) → Clear true (told s) false
 source_words s ns ks =
     let Links : List ℕ = flat_map link_numbers s.links in
     let Messages : List ℕ = flat_map message_numbers s.messages in

@@ -57,7 +57,7 @@ Fine (Numeral n) = n ≤ greatest
 Fine (Keyword key) = Unit {0}
 Fine (Marked m) = Unit {0}
 
--- Each word is fine and apart from the one before it, where the tests say whether the word before all of them and the last one open.
+-- Each word is fine and apart from the one before it; whether the words before and the last one open is told apart.
 abbrev pub Clear : Bool → List Told → Bool → Type 0
 Clear before [] last = before ≡ last
 Clear before (Tell gap word ∷ ps) last =
@@ -148,7 +148,7 @@ told_text (Tell gap w ∷ ps) last =
 -- What the lexer's laws say.
 module _ (separators : (sort : Sort) (b : ℕ) → IsTrue (is_space b) → prolongs sort b ≡ false)
     (decimals : (n : ℕ) → n ≤ greatest → Says (decimal n) (S.Number n)) where
-  fine_says : (w : Word) → Fine w → Says (spelling w) (told_sort w)
+  pub fine_says : (w : Word) → Fine w → Says (spelling w) (told_sort w)
   fine_says (Named n) h = h
   fine_says (Numeral n) h = decimals n h
   fine_says (Keyword key) h = refl

@@ -17,7 +17,10 @@ mod statement;
 
 pub use error::ParseError;
 pub use laws::{one_first_wrong, one_program};
-pub use laws_printed::{lines_are_not_printed, printed_is_in_the_grammar, printed_text_reads_back};
+pub use laws_printed::{
+    lines_are_not_printed, printed_is_in_the_grammar, printed_keeps_limits,
+    printed_text_reads_back, read_is_printable,
+};
 pub use parsing::parse;
 
 #[cfg(test)]

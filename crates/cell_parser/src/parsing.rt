@@ -1,5 +1,6 @@
 ghost use Rattle.std.specs.Prelude.{◌≡◌, ◌-◌, ◌≤◌, ◌⊎◌, length, slice_get, IfOk, IfErr, MatchResult};
 ghost use Rattle.cell_lexer.specs.Tokens.{TokensOf};
+ghost use Rattle.cell_tree.specs.Printable.{IsPrintable};
 ghost use Rattle.cell_tree.specs.declared.source.Source.{Source};
 ghost use Rattle.cell_parser.specs.declared.error.ParseError.{ParseError};
 ghost use Rattle.cell_parser.specs.Grammar.{Reads};
@@ -9,6 +10,7 @@ ghost use Rattle.cell_parser.specs.Refusal.{HasPlace, IsRefused};
 
 use crate::error::ParseError;
 use crate::fault::Fault;
+use crate::laws_printed::read_is_printable;
 use crate::limits::keep_limits;
 use crate::program::program;
 use cell_lexer::{Position, Token, end_of};
@@ -25,6 +27,7 @@ pub fn parse(alloc: Global, text: &[u8], tokens: &[Token]) -> Result<Source, Par
 
     // What is answered is right.
     ensures read { IfOk result (λ s. Reads (lexemes text.now tokens.now) s × KeepLimits tokens.now) }
+    ensures printable { IfOk result IsPrintable }
     ensures refused { IfErr result (IsRefused text.now tokens.now) }
 
     // What there is, is answered, unless memory runs out.
@@ -33,6 +36,7 @@ pub fn parse(alloc: Global, text: &[u8], tokens: &[Token]) -> Result<Source, Par
     ensures only_over { (f : ParseError) → FirstOver tokens.now f
         → MatchResult result (λ _. ⊥) (λ e. (e ≡ f) ⊎ (e ≡ ParseError.Memory)) }
 {
+    read_is_printable();
     limited(alloc, text, tokens)
 }
 

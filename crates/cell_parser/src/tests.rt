@@ -142,3 +142,15 @@ fn reads_127_parentheses(rt: HostRuntime) -> Result<(), Fail> {
     }
     Ok(())
 }
+
+#[test]
+fn refuses_the_longest_text_of_parentheses(rt: HostRuntime) -> Result<(), Fail> {
+    let text = vec![in rt.alloc(); b'('; 1_048_576]?;
+    let found = tokens(rt.alloc(), text.as_slice())?;
+    let wanted = ParseError::LongPiece { line: 1 };
+    assert_eq!(rt;
+        parse(rt.alloc(), text.as_slice(), &found).err(),
+        Some(wanted)
+    );
+    Ok(())
+}
