@@ -8,7 +8,7 @@ ghost use Rattle.cell_lexer.specs.Forms.{Says, greatest};
 ghost use Rattle.cell_lexer.specs.Pieces.{Piece, text_of, prolongs, Legible, placed, words_of, words_in, lines_from};
 ghost use Rattle.cell_lexer.specs.Tokens.{TokensOf};
 
-/// A law: a text has one list of tokens or one first fault, never two of either and never both.
+/// A law: a text has at most one list of tokens and at most one first fault, and never both.
 pub fn one_outcome()
     ensures tokens { (text : List ℕ) (ts us : List Token) → TokensOf text ts → TokensOf text us → ts ≡ us }
     ensures faults { (text : List ℕ) (e f : LexError) → FirstFault text e → FirstFault text f → e ≡ f }

@@ -1,4 +1,4 @@
-ghost use Rattle.std.specs.Prelude.{◌≡◌, ◌+◌, ◌<◌, ◌≤◌, length, drop};
+ghost use Rattle.std.specs.Prelude.{◌≡◌, ◌+◌, ◌-◌, ◌^◌, ◌<◌, ◌≤◌, length, drop};
 ghost use Rattle.cell_lexer.specs.Forms.{Longest};
 ghost use Rattle.cell_lexer.specs.Places.{line_at, column_at};
 ghost use Rattle.cell_lexer.specs.Scanning.{IsPlace};
@@ -12,7 +12,7 @@ pub struct Position {
 
 /// Where a text ends: the line and the column of the byte that would come next.
 pub fn end_of(text: &[u8]) -> Position
-    requires { length text.now ≤ 1048576 }
+    requires { length text.now < 2 ^ 32 - 1 }
     ensures line { result.line ≡ line_at text.now (length text.now) }
     ensures column { result.column ≡ column_at text.now (length text.now) }
 {
@@ -43,7 +43,7 @@ pub(crate) const START: Place = Place {
 
 /// The place one byte on.
 pub(crate) fn step(text: &[u8], place: Place) -> Place
-    requires short { length text.now ≤ 1048576 }
+    requires short { length text.now < 2 ^ 32 - 1 }
     requires inside { place.at < length text.now }
     requires place { IsPlace text.now place }
     ensures place { IsPlace text.now result }

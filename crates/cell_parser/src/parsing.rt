@@ -1,4 +1,4 @@
-ghost use Rattle.std.specs.Prelude.{◌≡◌, ◌-◌, ◌≤◌, ◌⊎◌, length, slice_get, IfOk, IfErr, MatchResult};
+ghost use Rattle.std.specs.Prelude.{◌≡◌, ◌-◌, ◌^◌, ◌<◌, ◌≤◌, ◌⊎◌, length, slice_get, IfOk, IfErr, MatchResult};
 ghost use Rattle.cell_lexer.specs.Tokens.{TokensOf};
 ghost use Rattle.cell_tree.specs.Printable.{IsPrintable};
 ghost use Rattle.cell_tree.specs.declared.source.Source.{Source};
@@ -22,7 +22,7 @@ use std::alloc::Global;
 /// An error is the first token that breaks a limit (E06, E07); where none does, the first token that can't stand where it stands,
 /// or the end of the text (E02); or `Memory`, which may come for any text. The time is linear.
 pub fn parse(alloc: Global, text: &[u8], tokens: &[Token]) -> Result<Source, ParseError>
-    requires short { length text.now ≤ 1048576 }
+    requires short { length text.now < 2 ^ 32 - 1 }
     requires tokens { TokensOf text.now tokens.now }
 
     // What is answered is right.
@@ -42,7 +42,7 @@ pub fn parse(alloc: Global, text: &[u8], tokens: &[Token]) -> Result<Source, Par
 
 /// The source that the tokens are, once they have been found to keep the limits.
 fn limited(alloc: Global, text: &[u8], tokens: &[Token]) -> Result<Source, ParseError>
-    requires short { length text.now ≤ 1048576 }
+    requires short { length text.now < 2 ^ 32 - 1 }
     requires tokens { TokensOf text.now tokens.now }
     ensures read { IfOk result (λ s. Reads (lexemes text.now tokens.now) s × KeepLimits tokens.now) }
     ensures refused { IfErr result (IsRefused text.now tokens.now) }
@@ -63,7 +63,7 @@ fn limited(alloc: Global, text: &[u8], tokens: &[Token]) -> Result<Source, Parse
 
 /// Where the first of the last so many tokens stands, or the end of the text where these are none.
 fn place_of(text: &[u8], tokens: &[Token], left: usize) -> Position
-    requires short { length text.now ≤ 1048576 }
+    requires short { length text.now < 2 ^ 32 - 1 }
     requires left { left ≤ length tokens.now }
     ensures { HasPlace text.now (slice_get tokens.now (length tokens.now - left)) result.line result.column }
 {
