@@ -1,5 +1,12 @@
 pub mod BlockSteps
+pub mod Bounded
+pub mod DepthExamples
+pub mod DepthSteps
 pub mod Joined
+pub mod PlainWords
 pub mod PrintableExamples
+pub mod ShallowExpressions
+pub mod ShallowSources
+pub mod ShallowStatements
 pub mod SourceSteps
 pub mod Steps

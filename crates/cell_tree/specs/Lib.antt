@@ -1,4 +1,5 @@
 pub mod Canonical
+pub mod Depth
 pub mod Expression
 pub mod Operator
 pub mod Pieces

@@ -2,6 +2,7 @@
 #![tactic(auto)]
 
 mod expression;
+mod laws;
 mod level;
 mod print_expression;
 mod print_source;
@@ -11,6 +12,7 @@ mod statement;
 mod words;
 
 pub use expression::Expr;
+pub use laws::printable_is_shallow;
 pub use print_source::print;
 pub use source::{CellDecl, LinkDecl, MessageDecl, Place, Source, VarDecl};
 pub use statement::{Act, Stmt};
