@@ -1,6 +1,8 @@
 -- The line of each refusal.
 use Rattle.std.specs.Prelude.{ℕ, Bool, true, false, nat_le, ◌==◌, List, [], ◌++◌, codes, if◌then◌else◌}
 use Rattle.std.specs.Fmt.{decimal}
+use Rattle.sys_base.specs.declared.kinds.Dir.{Dir}
+use Rattle.sys_base.specs.declared.kinds.Dir.TheVariants.{N, E, S, W}
 use Rattle.sys_base.specs.declared.kinds.Limit.{Limit}
 use Rattle.sys_base.specs.declared.kinds.Limit.TheVariants as L
 use Rattle.refusals.specs.declared.refusal.Refusal.{Refusal}
@@ -17,6 +19,17 @@ on_line number line words = line_head number line ++ words
 -- the name of the cell in a row and a column
 unfoldable pub cell_text : ℕ → ℕ → List ℕ
 cell_text row col = decimal row ++ codes "." ++ decimal col
+
+-- the letter of a direction
+abbrev pub dir_letter : Dir → List ℕ
+dir_letter N = codes "N"
+dir_letter E = codes "E"
+dir_letter S = codes "S"
+dir_letter W = codes "W"
+
+-- the name of the link that leaves the cell in a row and a column: the cell's name and the letter of the direction
+unfoldable pub link_text : ℕ → ℕ → Dir → List ℕ
+link_text row col dir = cell_text row col ++ dir_letter dir
 
 -- a message and its label
 unfoldable pub labelled : List ℕ → ℕ → List ℕ

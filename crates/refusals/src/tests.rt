@@ -1,12 +1,14 @@
 ghost use Rattle.std.specs.Prelude.{IsTrue};
 ghost use Rattle.refusals.specs.Texts.{is_kind_known};
 
-use crate::{Refusal, text};
+use crate::{
+    Refusal, Wait, again_text, cell_text, explain, link_text, nothing_left_text, text, wait_text,
+};
 use sqlite_items::Items;
 use std::alloc::{AllocGlobal, Global};
 use std::process::Abort;
 use std::test::Fail;
-use sys_base::{Limit, Name};
+use sys_base::{Dir, Limit, Name};
 
 fn name(alloc: Global, text: &[u8]) -> Result<Name, Fail> {
     let name = Name::new(alloc, text)?.ok_or("no name")?;
@@ -218,5 +220,95 @@ fn programs(rt: HostRuntime) -> Result<(), Fail> {
         &rt,
         Refusal::Bound { bound },
         "E61 the bound 4194305 is more than 4194304",
+    )
+}
+
+/// The refusal has this explanation.
+fn explained<R: Abort + AllocGlobal>(rt: &R, refusal: Refusal, want: &str) -> Result<(), Fail>
+    requires { IsTrue (is_kind_known refusal) }
+{
+    let text = explain(rt.alloc(), &refusal)?;
+    assert_eq!(rt; text.as_slice(), want.as_bytes());
+    Ok(())
+}
+
+#[test]
+fn a_walk_in_a_circle(rt: HostRuntime) -> Result<(), Fail> {
+    let alloc = rt.alloc();
+    let writer = Wait {
+        row: 0,
+        col: 0,
+        writes: true,
+        partner_row: 0,
+        partner_col: 1,
+    };
+    let reader = Wait {
+        row: 0,
+        col: 1,
+        writes: false,
+        partner_row: 0,
+        partner_col: 0,
+    };
+    let mut walk = Items::new(alloc);
+    let write = wait_text(alloc, writer, &name(alloc, b"A")?)?;
+    walk.push(Items::from_vec(write))?;
+    let read = wait_text(alloc, reader, &name(alloc, b"B")?)?;
+    walk.push(Items::from_vec(read))?;
+    walk.push(Items::from_vec(again_text(alloc, 0, 0)?))?;
+    explained(
+        &rt,
+        Refusal::Crossing { left: 4, walk },
+        "E30 crossing-off leaves 4 operations\n0.0 waits to write A to 0.1\n0.1 waits to read B from 0.0\n0.0 again\n",
+    )
+}
+
+#[test]
+fn a_walk_to_an_idle_cell(rt: HostRuntime) -> Result<(), Fail> {
+    let alloc = rt.alloc();
+    let writer = Wait {
+        row: 0,
+        col: 0,
+        writes: true,
+        partner_row: 0,
+        partner_col: 1,
+    };
+    let mut walk = Items::new(alloc);
+    let write = wait_text(alloc, writer, &name(alloc, b"A")?)?;
+    walk.push(Items::from_vec(write))?;
+    walk.push(Items::from_vec(nothing_left_text(alloc, 0, 1)?))?;
+    explained(
+        &rt,
+        Refusal::Crossing { left: 1, walk },
+        "E30 crossing-off leaves 1 operations\n0.0 waits to write A to 0.1\n0.1 has nothing left\n",
+    )
+}
+
+#[test]
+fn a_group(rt: HostRuntime) -> Result<(), Fail> {
+    let alloc = rt.alloc();
+    let mut group = Items::new(alloc);
+    group.push(name(alloc, b"A")?)?;
+    group.push(name(alloc, b"B")?)?;
+    let few = Refusal::TooFew {
+        link: Items::from_vec(link_text(alloc, 0, 0, Dir::E)?),
+        label: 0,
+        need: 2,
+        has: 1,
+        group,
+    };
+    explained(
+        &rt,
+        few,
+        "E50 link 0.0E label 0 needs 2 queues and has 1\ngroup A B\n",
+    )
+}
+
+#[test]
+fn no_further_lines(rt: HostRuntime) -> Result<(), Fail> {
+    let what = Items::from_vec(cell_text(rt.alloc(), 15, 2)?);
+    explained(
+        &rt,
+        Refusal::Twice { what, line: 4 },
+        "E11 line 4: 15.2 stands twice\n",
     )
 }
