@@ -2,7 +2,7 @@
 use Rattle.std.proofs.Common.{◌≡◌, ◌≢◌, ◌⊎◌, ℕ, List, Option, None, Some, IfSome, IsSome, IsSomeAnd, Contains, Result, Ok, Err, refl, sym, ap, ◌∙◌, subst, inl, inr, arith}
 use Rattle.std.specs.Io.KnownBytes.{Appends}
 use Rattle.sys_outside.specs.Fault.{Rose}
-use Rattle.systole_top.specs.Causes.{IsUnread, May, Tells, Answers, Judges, UsageCause, ReadCause, StoodStill, Completes}
+use Rattle.systole_top.specs.Causes.{IsUnread, May, Tells, Answers, Judges, Checks, UsageCause, ReadCause, StoodStill, Completes}
 use Rattle.systole_top.specs.Commands.{tree_of, files_of}
 use Rattle.systole_top.specs.Reply.{Reply, Outcome, status_of, outcome_of, usage, unread, no_memory}
 use Rattle.systole_top.specs.Runs.{Said, Unread, NoMemory, End, Gave, Stopped, Runs, Steps}
@@ -17,6 +17,7 @@ use Rattle.systole_top.specs.declared.answer.Verdict.{Verdict}
 use Rattle.systole_top.specs.declared.answer.Verdict.TheVariants.{Done, Refused}
 use Rattle.systole_top.specs.declared.status.Status.{Status}
 use Rattle.systole_top.proofs.Asked.{asks, asks_tries}
+use Rattle.systole_top.proofs.Checked.{checks_of}
 use Rattle.systole_top.proofs.Reaching.{reaches_err}
 
 -- ---- verdicts
@@ -278,6 +279,9 @@ module _ {asked : Option Shape} {held : List ℕ → Option (List ℕ)} {before 
 
   pub judges : Judges asked held out err status
   judges = judges_of held before now out err status asked t.told t.may t.reaches
+
+  pub checks : Checks asked held out err status
+  checks = checks_of held before now out err status asked answers judges
 
   pub usage_cause : UsageCause asked status
   usage_cause = usage_of held before now out err status asked t.told t.may t.reaches

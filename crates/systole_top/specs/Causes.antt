@@ -1,12 +1,14 @@
 -- What the top call promises.
-use Rattle.std.specs.Prelude.{ℕ, ◌≡◌, ◌⊎◌, ◌≢◌, ◌-◌, ◌^◌, ◌<◌, List, [], Option, None, Some, IsSome, Contains}
+use Rattle.std.specs.Prelude.{ℕ, ◌≡◌, ◌⊎◌, ◌≢◌, ◌-◌, ◌^◌, ◌<◌, List, [], Option, None, Some, IsSome, IfSome, Contains}
 use Rattle.std.specs.Io.KnownBytes.{Appends}
+use Rattle.accept.specs.FirstRefusal.{Accepts, FirstRefusal}
+use Rattle.refusals.specs.declared.refusal.Refusal.{Refusal}
 use Rattle.sys_outside.specs.Fault.{Rose}
 use Rattle.systole_top.specs.Commands.{tree_of, files_of}
 use Rattle.systole_top.specs.Reply.{Reply, Outcome, status_of, outcome_of, usage, unread, no_memory}
-use Rattle.systole_top.specs.Shape.{Shape}
+use Rattle.systole_top.specs.Shape.{Shape, Check}
 use Rattle.systole_top.specs.Sides.{Stream, Reaches}
-use Rattle.systole_top.specs.Texts.{cannot_read}
+use Rattle.systole_top.specs.Texts.{cannot_read, accepted_line, refusal_line}
 use Rattle.systole_top.specs.Tree.{Replies, Comes, Tries}
 use Rattle.systole_top.specs.declared.answer.Verdict.{Verdict}
 use Rattle.systole_top.specs.declared.status.Status.{Status}
@@ -66,6 +68,25 @@ abbrev pub Judges : Option Shape → (List ℕ → Option (List ℕ)) → Stream
 Judges asked held out err status =
     (v : Verdict) → status ≡ status_of v → ((name : List ℕ) → Names asked name → IsSome (held name))
     → (a : Outcome) × IsAnswer asked held a × (a.status ≡ status) × Appends out.told_before out.told_now a.out × Appends err.told_before err.told_now a.err
+
+-- The status is this one; or a file couldn't be read, a put failed, or memory ran out.
+abbrev pub IsOrFault : Status → Status → Type 0
+IsOrFault wanted status =
+    (status ≡ wanted) ⊎ (status ≡ Status.ReadFault) ⊎ (status ≡ Status.WriteFault) ⊎ (status ≡ Status.Memory)
+
+-- What `check` says of a text: Done and `accepted` exactly where the text has no refusal, Refused and the line of the first refusal
+-- exactly where it has one, but for faults.
+pub record IsChecked (text : List ℕ) (out err : Stream) (status : Status) : Type 0 where
+  pub done : status ≡ Status.Done → Accepts text × Appends out.told_before out.told_now accepted_line × Appends err.told_before err.told_now []
+  pub refused : status ≡ Status.Refused
+      → (r : Refusal) × FirstRefusal text r × Appends out.told_before out.told_now [] × Appends err.told_before err.told_now (refusal_line r)
+  pub accepted : Accepts text → IsOrFault Status.Done status
+  pub first : (r : Refusal) → FirstRefusal text r → IsOrFault Status.Refused status
+
+-- Where the words are `check F` and the file F is told, its text is checked.
+abbrev pub Checks : Option Shape → (List ℕ → Option (List ℕ)) → Stream → Stream → Status → Type 0
+Checks None held out err status = Unit {0}
+Checks (Some (Check file)) held out err status = IfSome (held file) (λ text. IsChecked text out err status)
 
 -- Words with no shape are a faulty command line, unless a put failed or memory ran out; others never are.
 abbrev pub UsageCause : Option Shape → Status → Type 0

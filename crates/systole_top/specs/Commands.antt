@@ -8,7 +8,7 @@ use Rattle.systole_top.specs.Tree.{Tree, Gives, Says, Reads, Picks, then_}
 use Rattle.systole_top.specs.declared.check.TheConstants.{SOURCE_BYTES}
 use Rattle.systole_top.specs.declared.answer.Verdict.TheVariants as Verdict
 use Rattle.systole_top.specs.declared.judgement.Judgement.{Judgement}
-use Rattle.systole_top.specs.declared.judgement.Refusal.{Refusal}
+use Rattle.refusals.specs.declared.refusal.Refusal.{Refusal}
 
 -- ---- sources
 

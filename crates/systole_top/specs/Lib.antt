@@ -1,9 +1,3 @@
-pub mod Words
-pub mod Straight
-pub mod PlanMachine
-pub mod PlanReading
-pub mod Reading
-pub mod Resolving
 pub mod Judgement
 pub mod Only
 pub mod Texts

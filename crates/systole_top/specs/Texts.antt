@@ -1,8 +1,7 @@
 -- What the commands print.
 use Rattle.std.specs.Prelude.{ℕ, List, ◌++◌, codes}
-use Rattle.std.specs.Fmt.{decimal}
-use Rattle.systole_top.specs.declared.judgement.Refusal.{Refusal}
-use Rattle.systole_top.specs.declared.judgement.Refusal.TheVariants.{LongSource, NotStraight, Crossing}
+use Rattle.refusals.specs.Texts.{text_of}
+use Rattle.refusals.specs.declared.refusal.Refusal.{Refusal}
 
 -- of words that are no command
 unfoldable pub usage_line : List ℕ
@@ -22,6 +21,4 @@ accepted_line = codes "accepted\n"
 
 -- of a source that is refused
 unfoldable pub refusal_line : Refusal → List ℕ
-refusal_line LongSource = codes "E05 the source has more than 1048576 bytes\n"
-refusal_line NotStraight = codes "E00 not a straight source\n"
-refusal_line (Crossing left) = codes "E30 crossing-off leaves " ++ decimal left ++ codes " operations\n"
+refusal_line r = text_of r ++ codes "\n"

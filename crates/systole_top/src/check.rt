@@ -1,17 +1,20 @@
-ghost use Rattle.std.specs.Prelude.{◌≡◌, ◌≤◌, length, IfOk, IfSome};
+ghost use Rattle.std.specs.Prelude.{◌≡◌, IfOk, IsTrue};
 ghost use Rattle.std.specs.Option.{option_map};
+ghost use Rattle.refusals.specs.Texts.{is_kind_known};
 ghost use Rattle.systole_top.specs.Commands.{judgement_of, judged, passes, accepted, check_reply, refused_reply, tree_of};
+ghost use Rattle.systole_top.specs.Judgement.{HasLine};
 ghost use Rattle.systole_top.specs.Runs.{Steps, Shows};
 ghost use Rattle.systole_top.specs.Shape.{Check};
 ghost use Rattle.systole_top.specs.Stops.{bytes_of, ended, reply_of};
-ghost use Rattle.systole_top.specs.Texts.{accepted_line};
+ghost use Rattle.systole_top.specs.Texts.{accepted_line, refusal_line};
 ghost use Rattle.systole_top.specs.Tree.{Gives};
 
 use crate::answer::{Answer, Side, Stop, Verdict};
-use crate::judgement::{Judgement, Refusal, judge};
+use crate::judgement::{Judgement, judge};
 use crate::read::read_file;
-use crate::refusal::refusal_line;
+use refusals::{Refusal, text};
 use std::alloc::{AllocError, Global};
+use sys_base::Memory;
 use sys_outside::Shelf;
 
 /// The most bytes that a source has.
@@ -48,16 +51,18 @@ fn accepted<S: Shelf>(alloc: Global, shelf: &mut S, file: &str) -> Result<(), St
 }
 
 fn passes(alloc: Global, judgement: Judgement) -> Result<(), Stop>
+    requires { HasLine judgement }
     ensures { Shows (passes judgement) (ended (λ x. x) result) }
 {
     match judgement {
         Judgement::Accepted => Ok(()),
-        Judgement::Refused(refusal) => Err(Stop::Says(refused(alloc, refusal)?)),
+        Judgement::Refused(refusal) => Err(Stop::Says(refused(alloc, &refusal)?)),
     }
 }
 
-fn refused(alloc: Global, refusal: Refusal) -> Result<Answer, AllocError>
-    ensures { IfOk result (λ a. reply_of a ≡ refused_reply refusal) }
+fn refused(alloc: Global, refusal: &Refusal) -> Result<Answer, Memory>
+    requires { IsTrue (is_kind_known refusal.now) }
+    ensures { IfOk result (λ a. reply_of a ≡ refused_reply refusal.now) }
 {
     Ok(Answer {
         verdict: Verdict::Refused,
@@ -66,19 +71,30 @@ fn refused(alloc: Global, refusal: Refusal) -> Result<Answer, AllocError>
     })
 }
 
+#[tactic(auto, unfolding(crate::specs::Texts::refusal_line))]
+fn refusal_line(alloc: Global, refusal: &Refusal) -> Result<Vec<u8>, Memory>
+    requires { IsTrue (is_kind_known refusal.now) }
+    ensures { IfOk result (λ line. line.items ≡ refusal_line refusal.now) }
+{
+    let mut line = text(alloc, refusal)?;
+    line.push(b'\n')?;
+    Ok(line)
+}
+
 // Reads a source and judges it.
 #[tactic(auto, using(crate::proofs::Trees::step_stop))]
 fn judged<S: Shelf>(alloc: Global, shelf: &mut S, file: &str) -> Result<Judgement, Stop>
-    ensures { Steps (S.held shelf.old) (S.held shelf.new) (S.faults shelf.old) (S.faults shelf.new)
+    ensures steps { Steps (S.held shelf.old) (S.held shelf.new) (S.faults shelf.old) (S.faults shelf.new)
         (judged file.now) (ended (λ x. x) result) }
+    ensures line { IfOk result HasLine }
 {
     let text = read_file(alloc, shelf, file, SOURCE_BYTES)?;
     judgement_of(alloc, text)
 }
 
 fn judgement_of(alloc: Global, text: Option<Vec<u8>>) -> Result<Judgement, Stop>
-    requires { IfSome text (λ bytes. length bytes.items ≤ SOURCE_BYTES) }
-    ensures { Shows (judgement_of (option_map bytes_of text)) (ended (λ x. x) result) }
+    ensures shows { Shows (judgement_of (option_map bytes_of text)) (ended (λ x. x) result) }
+    ensures line { IfOk result HasLine }
 {
     match text {
         None => Ok(Judgement::Refused(Refusal::LongSource)),

@@ -1,25 +1,14 @@
-ghost use Rattle.std.specs.Prelude.{◌≡◌, ◌≤◌, length, IfOk};
-ghost use Rattle.systole_top.specs.Judgement.{IsJudgement, judgement_of};
+ghost use Rattle.std.specs.Prelude.{◌≡◌, Some, IfOk};
+ghost use Rattle.systole_top.specs.Judgement.{IsJudged, HasLine};
 ghost use Rattle.systole_top.specs.Only.{IsOnly};
 
-use crate::straight::read_straight;
-use crossing_off::{Crossed, cross, one_greedy_order};
+use accept::{AcceptError, build, one_first_refusal};
+use refusals::Refusal;
 use std::alloc::Global;
 use sys_base::Memory;
 
-/// Why a source is refused, in the order in which the refusals are tried.
-#[derive(Clone, Copy, Debug, PartialEq, Eq)]
-pub enum Refusal {
-    /// The source has more than 1,048,576 bytes.
-    LongSource,
-    /// The source isn't a straight source.
-    NotStraight,
-    /// Crossing-off leaves so many operations.
-    Crossing { left: u32 },
-}
-
 /// What a source is found to be.
-#[derive(Clone, Copy, Debug, PartialEq, Eq)]
+#[derive(Debug, Drop)]
 pub enum Judgement {
     /// It is accepted.
     Accepted,
@@ -27,24 +16,15 @@ pub enum Judgement {
     Refused(Refusal),
 }
 
-/// Accepts a straight source that crossing-off empties, and else says the first refusal that applies.
+/// Accepts a source without a refusal, and else says its first one.
 pub fn judge(alloc: Global, text: &[u8]) -> Result<Judgement, Memory>
-    requires { length text.now ≤ 1048576 }
-    ensures { IfOk result (IsOnly (IsJudgement text.now)) }
+    ensures judged { IfOk result (IsOnly (IsJudged (Some text.now))) }
+    ensures line { IfOk result HasLine }
 {
-    one_greedy_order();
-    let Some(straight) = read_straight(alloc, text)? else {
-        return Ok(Judgement::Refused(Refusal::NotStraight));
-    };
-    let crossed = cross(alloc, &straight.lists, straight.count)?;
-    Ok(judgement_of(crossed))
-}
-
-fn judgement_of(crossed: Crossed) -> Judgement
-    ensures { result ≡ judgement_of crossed }
-{
-    match crossed {
-        Crossed::Empty(_) => Judgement::Accepted,
-        Crossed::Left(residue) => Judgement::Refused(Refusal::Crossing { left: residue.left }),
+    one_first_refusal();
+    match build(alloc, text) {
+        Ok(_) => Ok(Judgement::Accepted),
+        Err(AcceptError::Refused(refusal)) => Ok(Judgement::Refused(refusal)),
+        Err(AcceptError::Memory) => Err(Memory),
     }
 }

@@ -6,10 +6,8 @@ mod check;
 mod command;
 mod judgement;
 mod read;
-mod refusal;
 mod say;
 mod status;
-mod straight;
 #[cfg(test)]
 mod tests;
 mod top;

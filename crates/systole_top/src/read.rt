@@ -1,4 +1,4 @@
-ghost use Rattle.std.specs.Prelude.{◌≡◌, ◌^◌, ◌<◌, ◌≤◌, length, IfOk, IfSome};
+ghost use Rattle.std.specs.Prelude.{◌≡◌, ◌^◌, ◌<◌, IfOk};
 ghost use Rattle.std.specs.Option.{option_map};
 ghost use Rattle.systole_top.specs.Runs.{Steps};
 ghost use Rattle.systole_top.specs.Stops.{bytes_of, ended};
@@ -17,9 +17,8 @@ pub fn read_file<S: Shelf>(
     limit: usize,
 ) -> Result<Option<Vec<u8>>, Stop>
     requires { limit < 2 ^ 32 }
-    ensures steps { Steps (S.held shelf.old) (S.held shelf.new) (S.faults shelf.old) (S.faults shelf.new)
+    ensures { Steps (S.held shelf.old) (S.held shelf.new) (S.faults shelf.old) (S.faults shelf.new)
         (Reads name.now limit Gives) (ended (option_map bytes_of) result) }
-    ensures short { IfOk result (λ file. IfSome file (λ bytes. length bytes.items ≤ limit)) }
 {
     let mut bytes = Vec::new(alloc);
     match shelf.fetch(name, limit, &mut bytes) {

@@ -91,29 +91,65 @@ fn check(
 }
 
 #[test]
-fn sources_are_accepted_or_refused(rt: HostRuntime) -> Result<(), Fail> {
+fn sources_without_a_refusal_are_accepted(rt: HostRuntime) -> Result<(), Fail> {
     let alloc = rt.alloc();
-    let table: [(&[u8], Status, &str, &str); 4] = [
-        (PIPE, Status::Done, "accepted\n", ""),
-        (
-            CROSSED,
-            Status::Refused,
-            "",
-            "E30 crossing-off leaves 4 operations\n",
-        ),
-        (b"", Status::Refused, "", "E00 not a straight source\n"),
-        (
-            b"array 1 x 2; queues 1; cell 0.2 { }",
-            Status::Refused,
-            "",
-            "E00 not a straight source\n",
-        ),
-    ];
-    for (source, wanted, on_out, on_err) in table {
+    let table: [&[u8]; 2] = [PIPE, b"array 01 x 2;queues 1;# no cells"];
+    for source in table {
         let (status, out, err) = check(alloc, source.to_vec(alloc)?, Vec::new(alloc))?;
-        assert_eq!(rt; status, wanted);
-        assert_eq!(rt; out.bytes(), on_out.as_bytes());
-        assert_eq!(rt; err.bytes(), on_err.as_bytes());
+        assert_eq!(rt; status, Status::Done);
+        assert_eq!(rt; out.bytes(), b"accepted\n".as_slice());
+        assert_eq!(rt; err.bytes(), b"".as_slice());
+    }
+    Ok(())
+}
+
+// Sources that are refused, each with its line.
+const REFUSED: [(&[u8], &str); 11] = [
+    (
+        b"array 1 x 2; queues 1; cell 0.2 { }",
+        "E00 not a straight source\n",
+    ),
+    (
+        b"array 1 x 2; queues 1; cell 0.0 { emit 1; }",
+        "E00 not a straight source\n",
+    ),
+    (b"@", "E01 byte at 0 is not part of the language\n"),
+    (b"", "E02 line 1 column 1: not expected here\n"),
+    (
+        b"array 1 x 2;\nqueues queues;",
+        "E02 line 2 column 8: not expected here\n",
+    ),
+    (
+        b"array 1 x 9223372036854775808;",
+        "E03 line 1: the number is more than 9223372036854775807\n",
+    ),
+    (
+        b"array 1 x 2; queues 1;\nmessage ABCDEFGHIJKLMNOPQRSTUVWXYZ1234567 from 0.0 to 0.1;",
+        "E04 line 2: the name has more than 32 bytes\n",
+    ),
+    (
+        &[b'.'; 257],
+        "E06 line 1: more than 256 tokens without ; { or }\n",
+    ),
+    (
+        b"{{{{{{{{{{{{{{{{{{",
+        "E07 line 1: more than 17 braces are open\n",
+    ),
+    (CROSSED, "E30 crossing-off leaves 4 operations\n"),
+    (
+        b"{{{{{{{{{{{{{{{{{{ @",
+        "E01 byte at 19 is not part of the language\n",
+    ),
+];
+
+#[test]
+fn first_refusal_is_said(rt: HostRuntime) -> Result<(), Fail> {
+    let alloc = rt.alloc();
+    for (source, line) in REFUSED {
+        let (status, out, err) = check(alloc, source.to_vec(alloc)?, Vec::new(alloc))?;
+        assert_eq!(rt; status, Status::Refused);
+        assert_eq!(rt; out.bytes(), b"".as_slice());
+        assert_eq!(rt; err.bytes(), line.as_bytes());
     }
     Ok(())
 }

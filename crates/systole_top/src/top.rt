@@ -1,6 +1,6 @@
 ghost use Rattle.std.specs.Prelude.{◌≡◌, ◌⊎◌, map, string_bytes};
 ghost use Rattle.sys_outside.specs.Fault.{Rose};
-ghost use Rattle.systole_top.specs.Causes.{Tells, Answers, Judges, UsageCause, ReadCause, Completes};
+ghost use Rattle.systole_top.specs.Causes.{Tells, Answers, Judges, Checks, UsageCause, ReadCause, Completes};
 ghost use Rattle.systole_top.specs.Shape.{shape};
 ghost use Rattle.systole_top.specs.Sides.{stream};
 
@@ -27,6 +27,9 @@ pub fn systole<S: Shelf, O: Sink, E: Sink>(
         (stream (O.taken out.old) (O.taken out.new) (O.faults out.old) (O.faults out.new))
         (stream (E.taken err.old) (E.taken err.new) (E.faults err.old) (E.faults err.new)) result }
     ensures judges { Judges (shape (map string_bytes words.now)) (S.held shelf.old)
+        (stream (O.taken out.old) (O.taken out.new) (O.faults out.old) (O.faults out.new))
+        (stream (E.taken err.old) (E.taken err.new) (E.faults err.old) (E.faults err.new)) result }
+    ensures checks { Checks (shape (map string_bytes words.now)) (S.held shelf.old)
         (stream (O.taken out.old) (O.taken out.new) (O.faults out.old) (O.faults out.new))
         (stream (E.taken err.old) (E.taken err.new) (E.faults err.old) (E.faults err.new)) result }
     ensures usage { UsageCause (shape (map string_bytes words.now)) result }

@@ -1,4 +1,4 @@
-use Rattle.systole_top.proofs.Clauses.{answers, judges, usage_cause, read_cause, write_cause, completes}
+use Rattle.systole_top.proofs.Clauses.{answers, judges, checks, usage_cause, read_cause, write_cause, completes}
 use Rattle.systole_top.proofs.top.systole.Goals as goal
 
 pub returns : goal.returns
@@ -8,6 +8,7 @@ returns g c =
       tells = told;
       answer = answers told;
       judges = judges told;
+      checks = checks told;
       usage = usage_cause told;
       read = read_cause told;
       write = write_cause told;

@@ -1,0 +1,197 @@
+-- A text has at most one first refusal, and none where it is accepted.
+use Rattle.std.proofs.Common.{ℕ, ◌≡◌, List, [], Option, None, Some, inl, inr, true, false, take, slice_get, refl, sym, ap, subst, ◌∙◌}
+use Rattle.std.specs.Prelude.{MatchOption}
+use Rattle.std.proofs.lemmas.Bool.{cases_order}
+use Rattle.cell_lexer.specs.declared.error.LexError.{LexError}
+use Rattle.cell_lexer.specs.declared.error.LexError.TheVariants as L
+use Rattle.cell_lexer.specs.declared.token.Token.{Token}
+use Rattle.cell_lexer.specs.Faults.{FirstFault}
+use Rattle.cell_lexer.specs.Tokens.{TokensOf}
+use Rattle.cell_parser.specs.Grammar.{Reads}
+use Rattle.cell_parser.specs.Lexeme.{lexemes}
+use Rattle.cell_parser.specs.Limits.{parts, in_piece, open_in, Over, OverAt, FirstOver}
+use Rattle.cell_parser.specs.Refusal.{HasPlace, WrongAt}
+use Rattle.cell_parser.specs.declared.error.ParseError.{ParseError}
+use Rattle.cell_parser.specs.declared.error.ParseError.TheVariants as P
+use Rattle.cell_tree.specs.declared.source.Source.{Source}
+use Rattle.crossing_off.specs.declared.Comm.{Comm}
+use Rattle.crossing_off.specs.Greedy.{left}
+use Rattle.refusals.specs.declared.refusal.Refusal.{Refusal}
+use Rattle.refusals.specs.declared.refusal.Refusal.TheVariants as R
+use Rattle.accept.specs.declared.building.AcceptError.TheVariants as A
+use Rattle.accept.specs.FirstRefusal.{IsLong, IsMisspelt, IsOver, IsMisplaced, IsOutside, Leaves, IsStalled, Trials, Passed, Try, trials, IsFirstOf, PassesAll, FirstRefusal, Accepts}
+use Rattle.accept.specs.Laws.{Laws}
+use Rattle.accept.specs.Reading.{misspelt, misplaced}
+use Rattle.accept.specs.Source.{IsSource}
+use Rattle.accept.specs.Straight.{lists}
+
+-- ---- the first token over a limit
+
+-- a token is refused for one limit at most
+one_over : (piece braces : ℕ) (t : Token) (e f : ParseError) → Over piece braces t e → Over piece braces t f → e ≡ f
+one_over piece braces t (P.LongPiece l) (P.LongPiece m) a b = ap (λ n. P.LongPiece n) (a.0 ∙ sym b.0)
+one_over piece braces t (P.Braces l) (P.Braces m) a b = ap (λ n. P.Braces n) (a.0 ∙ sym b.0)
+one_over piece braces t (P.LongPiece l) (P.Braces m) a b = let x : true ≡ false = sym (ap parts b.1) ∙ a.1 in cc
+one_over piece braces t (P.Braces l) (P.LongPiece m) a b = let x : true ≡ false = sym (ap parts a.1) ∙ b.1 in cc
+one_over piece braces t (P.Unexpected l c) f a b = absurd a
+one_over piece braces t P.Memory f a b = absurd a
+one_over piece braces t e (P.Unexpected l c) a b = absurd b
+one_over piece braces t e P.Memory a b = absurd b
+
+-- and so is the token at a place
+one_over_at : (ts : List Token) (at : ℕ) (e f : ParseError) → OverAt ts at e → OverAt ts at f → e ≡ f
+one_over_at ts at e f a b =
+    elim (slice_get ts at) as (λ o. MatchOption o ⊥ (λ u. Over (in_piece (take at ts)) (open_in (take at ts)) u e) → MatchOption o ⊥ (λ u. Over (in_piece (take at ts)) (open_in (take at ts)) u f) → e ≡ f) [
+      | None ↦ λ x y. absurd x
+      | Some t ↦ λ x y. one_over (in_piece (take at ts)) (open_in (take at ts)) t e f x y
+    ] a b
+
+-- the first token over a limit is refused in one way at most
+one_first_over : (ts : List Token) (e f : ParseError) → FirstOver ts e → FirstOver ts f → e ≡ f
+one_first_over ts e f a b = elim (cases_order a.at b.at) as (λ _. e ≡ f) [
+  | inl same ↦ one_over_at ts b.at e f (subst (λ n. OverAt ts n e) same a.over) b.over
+  | inr (inl less) ↦ absurd (b.first a.at e less a.over)
+  | inr (inr more) ↦ absurd (a.first b.at f more b.over)
+]
+
+-- ---- what a trial that applies says
+
+-- The refusal is what the lexer finds wrong.
+abbrev pub Misspelling : List ℕ → Refusal → Type 0
+Misspelling text r = (e : LexError) × FirstFault text e × (misspelt e ≡ A.Refused r)
+
+-- and so is each one of the trial
+pub misspelling : (text : List ℕ) (r : Refusal) → IsMisspelt text r → Misspelling text r
+misspelling text (R.BadByte at) h = (L.BadByte at, h, refl)
+misspelling text (R.BigNumber line) h = (L.BigNumber line, h, refl)
+misspelling text (R.LongName line) h = (L.LongName line, h, refl)
+misspelling text _ h = absurd h
+
+-- The refusal is that of the first token over a limit.
+abbrev pub Excess : List ℕ → Refusal → Type 0
+Excess text r = (e : ParseError) × ((ts : List Token) × TokensOf text ts × FirstOver ts e) × (misplaced e ≡ A.Refused r)
+
+-- and so is each one of the trial
+pub excess : (text : List ℕ) (r : Refusal) → IsOver text r → Excess text r
+excess text (R.LongPiece line) h = (P.LongPiece line, h, refl)
+excess text (R.Braces line) h = (P.Braces line, h, refl)
+excess text _ h = absurd h
+
+-- The refusal is that of the first token that can't stand where it stands.
+abbrev pub Misplacing : List ℕ → Refusal → Type 0
+Misplacing text r = (line : ℕ) × (column : ℕ) × ((ts : List Token) × TokensOf text ts × WrongAt text ts line column) × (r ≡ R.Unexpected line column)
+
+-- and so is each one of the trial
+pub misplacing : (text : List ℕ) (r : Refusal) → IsMisplaced text r → Misplacing text r
+misplacing text (R.Unexpected line column) h = (line, column, h, refl)
+misplacing text _ h = absurd h
+
+-- The refusal is that of a source that crossing-off doesn't empty.
+abbrev pub Stalling : List ℕ → Refusal → Type 0
+Stalling text r = (n : ℕ) × ((s : Source) × IsSource text s × Leaves (lists s) n) × (r ≡ R.Crossing n [])
+
+-- and so is each one of the trial
+pub stalling : (text : List ℕ) (r : Refusal) → IsStalled text r → Stalling text r
+stalling text (R.Crossing n walk) (s, is, leaves, e) = (n, (s, is, leaves), ap (λ w. R.Crossing n w) e)
+stalling text _ h = absurd h
+
+-- ---- each trial gives one refusal
+
+-- The trial gives one refusal at most.
+abbrev IsUnique : (List ℕ → Refusal → Type 0) → Type 0
+IsUnique Applies = (text : List ℕ) (r q : Refusal) → Applies text r → Applies text q → r ≡ q
+
+-- equal errors hold equal refusals
+same_refusal : (r q : Refusal) → A.Refused r ≡ A.Refused q → r ≡ q
+same_refusal r q e = cc
+
+-- Each of the trials gives one refusal at most.
+abbrev AreUnique : Trials → Type 0
+AreUnique Passed = Unit {0}
+AreUnique (Try Applies rest) = IsUnique Applies × AreUnique rest
+
+-- then their first refusal is one at most
+first_unique : (ts : Trials) → AreUnique ts → IsUnique (IsFirstOf ts)
+first_unique Passed one text r q a b = absurd a
+first_unique (Try Applies rest) one text r q (inl a) (inl b) = one.0 text r q a b
+first_unique (Try Applies rest) one text r q (inl a) (inr b) = absurd (b.0 r a)
+first_unique (Try Applies rest) one text r q (inr a) (inl b) = absurd (a.0 q b)
+first_unique (Try Applies rest) one text r q (inr a) (inr b) = first_unique rest one.1 text r q a.1 b.1
+
+-- a text is too long in one way
+long_unique : IsUnique IsLong
+long_unique text r q h k = h.1 ∙ sym k.1
+
+-- a source is outside in one way
+outside_unique : IsUnique IsOutside
+outside_unique text r q h k = h.1 ∙ sym k.1
+
+-- a token, or the end of the text, has one line and one column
+place_unique : (text : List ℕ) (o : Option Token) (l c m d : ℕ) → HasPlace text o l c → HasPlace text o m d → R.Unexpected l c ≡ R.Unexpected m d
+place_unique text (Some t) l c m d h k = λ i. R.Unexpected ((h.0 ∙ sym k.0) i) ((h.1 ∙ sym k.1) i)
+place_unique text None l c m d h k = λ i. R.Unexpected ((h.0 ∙ sym k.0) i) ((h.1 ∙ sym k.1) i)
+
+module _ (laws : Laws) where
+  -- a text is misspelt in one way
+  misspelt_unique : IsUnique IsMisspelt
+  misspelt_unique text r q h k =
+      let a = misspelling text r h in
+      let b = misspelling text q k in
+      same_refusal r q (sym a.2 ∙ ap misspelt (laws.faults text a.0 b.0 a.1 b.1) ∙ b.2)
+
+  -- a text breaks a limit first in one way
+  over_unique : IsUnique IsOver
+  over_unique text r q h k =
+      let a = excess text r h in
+      let b = excess text q k in
+      let ts : a.1.0 ≡ b.1.0 = laws.tokens text a.1.0 b.1.0 a.1.1 b.1.1 in
+      same_refusal r q (sym a.2 ∙ ap misplaced (one_first_over b.1.0 a.0 b.0 (subst (λ us. FirstOver us a.0) ts a.1.2) b.1.2) ∙ b.2)
+
+  -- tokens are first wrong at one line and column
+  wrong_unique : (text : List ℕ) (ts : List Token) (l c m d : ℕ) → WrongAt text ts l c → WrongAt text ts m d → R.Unexpected l c ≡ R.Unexpected m d
+  wrong_unique text ts l c m d h k =
+      let at : h.at ≡ k.at = laws.wrong (lexemes text ts) h.at k.at h.wrong k.wrong in
+      place_unique text (slice_get ts k.at) l c m d (subst (λ n. HasPlace text (slice_get ts n) l c) at h.stands) k.stands
+
+  -- a text is first wrong at one line and column
+  misplaced_unique : IsUnique IsMisplaced
+  misplaced_unique text r q h k =
+      let (l, c, x, e) = misplacing text r h in
+      let (m, d, y, f) = misplacing text q k in
+      let ts : x.0 ≡ y.0 = laws.tokens text x.0 y.0 x.1 y.1 in
+      e ∙ wrong_unique text y.0 l c m d (subst (λ us. WrongAt text us l c) ts x.2) y.2 ∙ sym f
+
+  -- a text is one source at most
+  pub one_source : (text : List ℕ) (s t : Source) → IsSource text s → IsSource text t → s ≡ t
+  one_source text s t h k =
+      let ts : h.tokens ≡ k.tokens = laws.tokens text h.tokens k.tokens h.lexed k.lexed in
+      laws.program (lexemes text k.tokens) s t (subst (λ us. Reads (lexemes text us) s) ts h.read) k.read
+
+  -- crossing-off leaves one number of operations
+  leaves_unique : (all : List (List Comm)) (m n : ℕ) → Leaves all m → Leaves all n → m ≡ n
+  leaves_unique all m n h k =
+      h.some.2 ∙ ap (left all) (laws.order all h.some.0 k.some.0 h.some.1 k.some.1) ∙ sym k.some.2
+
+  -- a source stalls in one way
+  stalled_unique : IsUnique IsStalled
+  stalled_unique text r q h k =
+      let (m, x, e) = stalling text r h in
+      let (n, y, f) = stalling text q k in
+      let s : x.0 ≡ y.0 = one_source text x.0 y.0 x.1 y.1 in
+      e ∙ ap (λ i. R.Crossing i []) (leaves_unique (lists y.0) m n (subst (λ t. Leaves (lists t) m) s x.2) y.2) ∙ sym f
+
+  -- a text has one first refusal at most
+  pub one_refusal : (text : List ℕ) (r q : Refusal) → FirstRefusal text r → FirstRefusal text q → r ≡ q
+  one_refusal =
+      first_unique trials
+      (long_unique, (misspelt_unique, (over_unique, (misplaced_unique, (outside_unique, (stalled_unique, tt))))))
+
+-- where no trial applies, none is the first that applies
+accepted_of : (ts : Trials) (text : List ℕ) (r : Refusal) → PassesAll ts text → IsFirstOf ts text r → ⊥
+accepted_of Passed text r p h = h
+accepted_of (Try Applies rest) text r p (inl a) = p.0 r a
+accepted_of (Try Applies rest) text r p (inr a) = accepted_of rest text r p.1 a.1
+
+-- a text that is accepted has no refusal
+pub no_refusal : (text : List ℕ) (r : Refusal) → Accepts text → FirstRefusal text r → ⊥
+no_refusal text r = accepted_of trials text r

@@ -1,0 +1,12 @@
+use Rattle.accept.proofs.laws.laws_below.Goals as goal
+
+pub returns : goal.returns
+returns c = record {
+  tokens = c.one_outcome.ensures.tokens;
+  faults = c.one_outcome.ensures.faults;
+  apart = c.one_outcome.ensures.apart;
+  program = c.one_program.ensures;
+  wrong = c.one_first_wrong.ensures.one;
+  none_wrong = c.one_first_wrong.ensures.none;
+  order = c.one_greedy_order.ensures;
+}

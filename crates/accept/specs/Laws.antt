@@ -1,0 +1,23 @@
+-- The laws of the layers below, on which the law of the first refusal stands.
+use Rattle.std.specs.Prelude.{ℕ, ◌≡◌, List}
+use Rattle.cell_lexer.specs.declared.error.LexError.{LexError}
+use Rattle.cell_lexer.specs.declared.token.Token.{Token}
+use Rattle.cell_lexer.specs.Faults.{FirstFault}
+use Rattle.cell_lexer.specs.Tokens.{TokensOf}
+use Rattle.cell_parser.specs.FirstWrong.{FirstWrong}
+use Rattle.cell_parser.specs.Grammar.{Reads}
+use Rattle.cell_parser.specs.Lexeme.{Lexeme}
+use Rattle.cell_tree.specs.declared.source.Source.{Source}
+use Rattle.crossing_off.specs.declared.Comm.{Comm}
+use Rattle.crossing_off.specs.Greedy.{IsCrossed}
+
+-- A text has at most one list of tokens or one first fault; tokens are at most one source or have one first wrong place; and the greedy rule
+-- gives one list at most.
+pub record Laws : Type 0 where
+  pub tokens : (text : List ℕ) (ts us : List Token) → TokensOf text ts → TokensOf text us → ts ≡ us
+  pub faults : (text : List ℕ) (e f : LexError) → FirstFault text e → FirstFault text f → e ≡ f
+  pub apart : (text : List ℕ) (ts : List Token) (e : LexError) → TokensOf text ts → FirstFault text e → ⊥
+  pub program : (ts : List Lexeme) (s t : Source) → Reads ts s → Reads ts t → s ≡ t
+  pub wrong : (ts : List Lexeme) (a b : ℕ) → FirstWrong ts a → FirstWrong ts b → a ≡ b
+  pub none_wrong : (ts : List Lexeme) (s : Source) (at : ℕ) → Reads ts s → FirstWrong ts at → ⊥
+  pub order : (all : List (List Comm)) (a b : List ℕ) → IsCrossed all a → IsCrossed all b → a ≡ b

@@ -1,0 +1,13 @@
+//! What a source is found to be: its first refusal, or what is made of a source without one.
+#![tactic(auto)]
+
+mod building;
+mod errors;
+mod laws;
+mod straight;
+
+pub use building::{AcceptError, Built, build};
+pub use laws::one_first_refusal;
+
+#[cfg(test)]
+mod tests;

@@ -1,6 +1,0 @@
-use Rattle.std.proofs.Common.{◌∙◌}
-use Rattle.systole_top.proofs.Places.{position-keys}
-use Rattle.systole_top.proofs.straight.resolve.names.NameSet.place.Goals as goal
-
-pub returns : goal.returns
-returns c = c.get_index_of.ensures.index ∙ position-keys _ _ _ c.bytes.ensures.bytes
