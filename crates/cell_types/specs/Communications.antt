@@ -1,0 +1,61 @@
+-- What cells communicate: their lists of writes, reads, takes and emits, by unrolling.
+use Rattle.std.specs.Prelude.{ℕ, Bool, true, false, List, [], ◌∷◌, ◌++◌, nat_eq, count_by, slice_get, flat_map, replicate}
+use Rattle.std.specs.Option.{option_map_or}
+use Rattle.cell_types.specs.Code.{Action, Set, SetAt, Write, Read, Take, Emit, For, If, Block, End, Then, CellCode, ProgramCode}
+
+-- one communication: a message is written or read, an input word is taken, or an output word is emitted
+pub data Communication : Type 0 where
+  Writes : (message : ℕ) → Communication
+  Reads : (message : ℕ) → Communication
+  Takes : Communication
+  Emits : Communication
+
+-- so many copies of a list, one after another
+abbrev pub copies : ℕ → List Communication → List Communication
+copies n list = flat_map (λ copy. copy) (replicate n list)
+
+abbrev mutual
+  -- the communications of an action: those of a loop are copies of its body's, those of an `if` are its first arm's
+  pub action_communications : Action → List Communication
+  action_communications (Set word value) = []
+  action_communications (SetAt base len index value) = []
+  action_communications (Write message value) = Writes message ∷ []
+  action_communications (Read message word) = Reads message ∷ []
+  action_communications (Take word) = Takes ∷ []
+  action_communications (Emit value) = Emits ∷ []
+  action_communications (For counter turns body) = copies turns (block_communications body)
+  action_communications (If test first second) = block_communications first
+
+  -- the communications of statements, in order
+  pub block_communications : Block → List Communication
+  block_communications End = []
+  block_communications (Then line action rest) = action_communications action ++ block_communications rest
+
+-- the communications of a cell of a program, and none outside its cells
+abbrev pub communications : ProgramCode → ℕ → List Communication
+communications program cell = option_map_or (λ (c : CellCode). block_communications c.body) (slice_get program.cells cell) []
+
+-- whether two communications are the same
+abbrev pub same_communication : Communication → Communication → Bool
+same_communication (Writes m) (Writes n) = nat_eq m n
+same_communication (Reads m) (Reads n) = nat_eq m n
+same_communication Takes Takes = true
+same_communication Emits Emits = true
+same_communication _ _ = false
+
+-- how often a communication stands in a list
+abbrev pub times : Communication → List Communication → ℕ
+times c list = count_by (same_communication c) list
+
+-- the length of a message: how often the cells write it
+abbrev pub length_of : ProgramCode → ℕ → ℕ
+length_of program message =
+    times (Writes message) (flat_map (λ (c : CellCode). block_communications c.body) program.cells)
+
+-- how many input words a cell takes
+abbrev pub takes_of : ProgramCode → ℕ → ℕ
+takes_of program cell = times Takes (communications program cell)
+
+-- how many output words a cell emits
+abbrev pub emits_of : ProgramCode → ℕ → ℕ
+emits_of program cell = times Emits (communications program cell)

@@ -1,0 +1,17 @@
+pub mod Alike
+pub mod Code
+pub mod Communications
+pub mod Cost
+pub mod Declarations
+pub mod Depth
+pub mod Faults
+pub mod Groups
+pub mod Names
+pub mod Resolved
+pub mod Route
+pub mod Scopes
+pub mod Sound
+pub mod Statics
+pub mod Tables
+pub mod Typed
+pub mod Written

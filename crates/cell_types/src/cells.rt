@@ -1,0 +1,87 @@
+ghost use Rattle.std.specs.Prelude.{◌≡◌, ◌<◌, ◌≤◌, true, [], ◌∷◌, List, All, length, map, replicate, slice_set, MatchResult, IfOk, IfErr};
+ghost use Rattle.sys_base.specs.Grid.{cell_count};
+ghost use Rattle.cell_tree.specs.Depth.{cell_stack, cell_loops};
+ghost use Rattle.cell_types.specs.Code.{End};
+ghost use Rattle.cell_types.specs.Declarations.{place_faults, HasMarks};
+ghost use Rattle.cell_types.specs.Faults.{faults_behind, cell_faults, IsFirst};
+ghost use Rattle.cell_types.specs.Names.{cell_index, named_message, extent_of};
+ghost use Rattle.cell_types.specs.Resolved.{cell_with, program_of};
+ghost use Rattle.cell_types.specs.Scopes.{Resolves};
+ghost use Rattle.cell_types.specs.Tables.{named_in};
+ghost use Rattle.cell_types.specs.Typed.{plain_cell};
+ghost use Rattle.cell_types.specs.Written.{WrittenCell, written};
+ghost use Rattle.cell_types.specs.declared.error.StaticError.TheVariants as E;
+
+use crate::cell::resolve_cell;
+use crate::error::{StaticError, What};
+use crate::program::Cell;
+use crate::table::MessageTable;
+use cell_tree::{CellDecl, Source};
+use sqlite_items::Items;
+use std::alloc::Global;
+use sys_base::Grid;
+
+/// The programs of all cells of the grid by their indices, or the first fault of the declared cells.
+pub(crate) fn resolve_cells(
+    alloc: Global,
+    grid: &Grid,
+    messages: &MessageTable,
+    source: &Source,
+) -> Result<Items<Cell>, StaticError>
+    requires grid { grid.now ≡ extent_of (written source.now) }
+    requires messages { named_in messages.now ≡ map (named_message grid.now) source.now.messages }
+    requires stack { All (λ cell. cell_stack cell ≤ 256) source.now.cells }
+    requires loops { All (λ cell. cell_loops cell ≤ 16) source.now.cells }
+    ensures { Resolves (faults_behind (cell_faults (written source.now)) [] (written source.now).cells)
+        (map plain_cell) (program_of source.now).cells result }
+{
+    let count = usize::from(grid.cells());
+    let mut declared = vec![in alloc; false; count]?;
+    let mut cells = empty_cells(alloc, count)?;
+    for cell in source.cells.as_slice() {
+        let index = declare_cell(grid, &mut declared, cell)?;
+        cells[usize::from(index)] = resolve_cell(alloc, messages, index, cell)?;
+    }
+    Ok(Items::from_vec(cells))
+}
+
+/// So many cells without a program.
+fn empty_cells(alloc: Global, count: usize) -> Result<Vec<Cell>, StaticError>
+    ensures cells { IfOk result (λ cells. map plain_cell cells.items ≡ replicate count (cell_with 0 End)) }
+    ensures memory { IfErr result (λ e. e ≡ E.Memory) }
+{
+    let mut cells = Vec::new(alloc);
+    for _ in 0..count {
+        cells.push(Cell {
+            words: 0,
+            counters: 0,
+            stack: 0,
+            body: Vec::new(alloc),
+        })?;
+    }
+    Ok(cells)
+}
+
+/// Marks the place of one cell more, and gives its index.
+fn declare_cell(grid: &Grid, declared: &mut Vec<bool>, cell: &CellDecl) -> Result<u16, StaticError>
+    requires { length declared.old.items ≡ cell_count grid.now }
+    ensures faults { (earlier : List WrittenCell) → HasMarks grid.now earlier declared.old.items
+        → MatchResult result (λ _. place_faults grid.now earlier cell.now.place cell.now.line ≡ [])
+        (IsFirst (place_faults grid.now earlier cell.now.place cell.now.line)) }
+    ensures index { IfOk result (λ index. (index ≡ cell_index grid.now cell.now.place) × (index < cell_count grid.now)
+        × (declared.new.items ≡ slice_set declared.old.items index true)) }
+{
+    let line = cell.line;
+    let Some(index) = grid.cell(cell.place.row, cell.place.col) else {
+        return Err(StaticError::OutsideGrid { line });
+    };
+    let at = usize::from(index);
+    if declared[at] {
+        return Err(StaticError::Twice {
+            what: What::Cell(index),
+            line,
+        });
+    }
+    declared[at] = true;
+    Ok(index)
+}

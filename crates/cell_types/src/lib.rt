@@ -1,0 +1,28 @@
+//! Names and statics: a source whose names are resolved, or the first thing that is wrong with it.
+#![tactic(auto)]
+
+mod cell;
+mod cells;
+mod depth;
+mod error;
+mod expression;
+mod expressions;
+mod links;
+mod messages;
+mod names;
+mod program;
+mod resolving;
+mod scope;
+mod statement;
+mod statements;
+mod table;
+mod variables;
+
+pub use error::{Found, RouteFault, StaticError, What};
+pub use expression::TypedExpr;
+pub use program::{Cell, Message, Program};
+pub use resolving::resolve;
+pub use statement::{TypedAct, TypedStmt};
+
+#[cfg(test)]
+mod tests;

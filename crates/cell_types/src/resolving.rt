@@ -1,0 +1,55 @@
+ghost use Rattle.std.specs.Prelude.{◌≡◌, [], IfOk, IfErr};
+ghost use Rattle.cell_tree.specs.Printable.{IsPrintable};
+ghost use Rattle.cell_types.specs.Faults.{array_faults, faults, IsFirst};
+ghost use Rattle.cell_types.specs.Names.{extent_of};
+ghost use Rattle.cell_types.specs.Resolved.{program_of};
+ghost use Rattle.cell_types.specs.Scopes.{Resolves};
+ghost use Rattle.cell_types.specs.Typed.{plain};
+ghost use Rattle.cell_types.specs.Written.{written};
+
+use crate::cells::resolve_cells;
+use crate::error::StaticError;
+use crate::links::{all_queues, queue_count};
+use crate::messages::{Messages, resolve_messages};
+use crate::program::Program;
+use cell_tree::{Source, printable_is_shallow};
+use std::alloc::Global;
+use sys_base::{Grid, Limit};
+
+/// The most rows, and the most columns, of a grid.
+const SIDE: u64 = 16;
+
+/// The program of a printable source: its names resolved, its routes and queues filled in.
+///
+/// An error is the first fault of the source in file order, or `Memory`, which may come for any source.
+pub fn resolve(alloc: Global, source: Source) -> Result<Program, StaticError>
+    requires printable { IsPrintable source }
+    ensures program { IfOk result (λ p. (faults source ≡ []) × (plain p ≡ program_of source)) }
+    ensures fault { IfErr result (IsFirst (faults source)) }
+{
+    printable_is_shallow();
+    let grid = resolve_grid(&source)?;
+    let usual = queue_count(source.queues, source.queues_line)?;
+    let queues = all_queues(alloc, &grid, usual, source.links.as_slice())?;
+    let Messages { list, table } = resolve_messages(alloc, &grid, source.messages.as_slice())?;
+    let cells = resolve_cells(alloc, &grid, &table, &source)?;
+    Ok(Program::new(grid, queues, list, cells))
+}
+
+/// The grid of a source, by its `array` line.
+pub(crate) fn resolve_grid(source: &Source) -> Result<Grid, StaticError>
+    ensures { Resolves (array_faults (written source.now)) (λ grid. grid) (extent_of (written source.now)) result }
+{
+    if let Some(grid) = Grid::new(source.rows, source.cols) {
+        return Ok(grid);
+    }
+    let limit = if source.rows == 0 || source.rows > SIDE {
+        Limit::Rows
+    } else {
+        Limit::Columns
+    };
+    Err(StaticError::Limit {
+        limit,
+        line: source.array_line,
+    })
+}

@@ -1,0 +1,30 @@
+ghost use Rattle.std.specs.Prelude.{◌≤◌, length};
+
+mod counters;
+mod meanings;
+mod naming;
+
+use crate::names::NameSet;
+use crate::table::{Entry, MessageTable};
+use crate::variables::Variables;
+
+/// What statements at a place can name: all messages, the variables of their cell, and the counters of the loops around
+/// the place, the outermost first.
+#[derive(Drop)]
+pub(crate) struct Scope<'a> {
+    cell: u16,
+    messages: &'a MessageTable<'a>,
+    variables: Variables<'a>,
+    counters: NameSet<'a>,
+    ghost few: { length counters.names.keys ≤ 16 },
+}
+
+/// What a name means.
+#[derive(Clone, Copy, Debug)]
+pub(crate) enum Meaning {
+    Message(Entry),
+    Variable { offset: u16 },
+    Array { base: u16, len: u16 },
+    /// How many loops are around the counter's own.
+    Counter { depth: u8 },
+}
