@@ -1,0 +1,95 @@
+-- How often communications stand in lists, and how long the lists are.
+use Rattle.std.proofs.Common.{◌≡◌, ℕ, zero, suc, ◌+◌, ◌*◌, ◌≤◌, cond, nat_eq, zero-add, List, [], ◌∷◌, length, map, ap, sym, refl, ◌∙◌, arith}
+use Rattle.std.proofs.Math.Nat.{mul-le-mul_left}
+use Rattle.std.proofs.lemmas.List.{length-append}
+use Rattle.std.proofs.lemmas.List.Sums.{sum_by-cons, sum_by-append, sum_by-le-sum_by}
+use Rattle.std.specs.List.{cons_option, count_by, filter_map, flat_map, sum_by}
+use Rattle.cell_types.specs.Code.{Action, Set, SetAt, Write, Read, Take, Emit, For, If, Block, End, Then, CellCode}
+use Rattle.cell_types.specs.Communications.{Communication, Writes, Reads, Takes, Emits, copies, same_communication, times, action_communications, block_communications}
+use Rattle.cell_types.specs.Cost.{action_cost, block_cost}
+use Rattle.comm_sequence.specs.Sequences.{comm_of, comms, writes}
+use Rattle.comm_sequence.specs.Unrolling.{communication_of, all_of}
+use Rattle.comm_sequence.specs.declared.comm.Comm.TheVariants as C
+use Rattle.comm_sequence.specs.declared.entry.Entry.{Entry}
+use Rattle.comm_sequence.proofs.Cells.{of_code}
+
+-- the writes of a message among communications are those among their writes and reads
+pub counted_comms : (m : ℕ) (xs : List Communication) → times (Writes m) xs ≡ count_by (writes m) (comms xs)
+counted_comms m [] = refl
+counted_comms m (Writes n ∷ xs) =
+    sum_by-cons _ (Writes n) xs ∙ ap (λ k. cond (nat_eq m n) 1 0 + k) (counted_comms m xs) ∙ sym (sum_by-cons _ (C.Write n) (comms xs))
+counted_comms m (Reads n ∷ xs) =
+    sum_by-cons _ (Reads n) xs ∙ ap (λ k. 0 + k) (counted_comms m xs) ∙ sym (sum_by-cons _ (C.Read n) (comms xs))
+counted_comms m (Takes ∷ xs) = sum_by-cons _ Takes xs ∙ zero-add (times (Writes m) xs) ∙ counted_comms m xs
+counted_comms m (Emits ∷ xs) = sum_by-cons _ Emits xs ∙ zero-add (times (Writes m) xs) ∙ counted_comms m xs
+
+-- the writes of a message in all cells are those in their lists
+pub counted_cells : (m : ℕ) (cells : List CellCode)
+    → times (Writes m) (flat_map of_code cells) ≡ sum_by (count_by (writes m)) (map (λ c. comms (of_code c)) cells)
+counted_cells m [] = refl
+counted_cells m (c ∷ cs) =
+    sum_by-append _ (of_code c) (flat_map of_code cs)
+    ∙ ap (λ k. k + times (Writes m) (flat_map of_code cs)) (counted_comms m (of_code c))
+    ∙ ap (λ k. count_by (writes m) (comms (of_code c)) + k) (counted_cells m cs)
+    ∙ sym (sum_by-cons _ (comms (of_code c)) (map (λ c. comms (of_code c)) cs))
+
+-- a count of entries is that of their communications
+pub counted_entries : (x : Communication) (es : List Entry)
+    → count_by (λ e. same_communication x (communication_of e)) es ≡ times x (all_of es)
+counted_entries x [] = refl
+counted_entries x (e ∷ es) =
+    sum_by-cons _ e es ∙ ap (λ k. cond (same_communication x (communication_of e)) 1 0 + k) (counted_entries x es)
+    ∙ sym (sum_by-cons _ (communication_of e) (all_of es))
+
+-- the writes and reads of entries are those of their communications
+pub comms_of : (es : List Entry) → filter_map (λ e. comm_of (communication_of e)) es ≡ comms (all_of es)
+comms_of [] = refl
+comms_of (e ∷ es) = ap (cons_option (comm_of (communication_of e))) (comms_of es)
+
+-- no more writes and reads than communications
+pub fewer : (xs : List Communication) → length (comms xs) ≤ length xs
+fewer [] = omega arith
+fewer (Writes n ∷ xs) = omega (arith, fewer xs)
+fewer (Reads n ∷ xs) = omega (arith, fewer xs)
+fewer (Takes ∷ xs) = omega (arith, fewer xs)
+fewer (Emits ∷ xs) = omega (arith, fewer xs)
+
+-- the length of copies
+copies_long : (n : ℕ) (xs : List Communication) → length (copies n xs) ≡ n * length xs
+copies_long zero xs = omega arith
+copies_long (suc n) xs =
+    let h : length (copies n xs) ≡ n * length xs = copies_long n xs in
+    omega (arith, length-append xs (copies n xs), h)
+
+mutual
+  -- an action has no more communications than steps
+  act_within : (a : Action) → length (action_communications a) ≤ action_cost a
+  act_within (Set word value) = omega arith
+  act_within (SetAt base len index value) = omega arith
+  act_within (Write message value) = omega arith
+  act_within (Read message word) = omega arith
+  act_within (Take word) = omega arith
+  act_within (Emit value) = omega arith
+  act_within (For counter turns body) =
+      let b : length (block_communications body) ≤ block_cost body + 1 = omega (arith, block_within body) in
+      omega (arith, copies_long turns (block_communications body), mul-le-mul_left turns b)
+  act_within (If test first second) =
+      let b : length (block_communications first) ≤ block_cost first = block_within first in
+      omega arith
+
+  -- statements have no more communications than steps
+  pub block_within : (b : Block) → length (block_communications b) ≤ block_cost b
+  block_within End = omega arith
+  block_within (Then line action rest) =
+      omega (arith, length-append (action_communications action) (block_communications rest), act_within action, block_within rest)
+
+-- the sum of some lengths is at most that of the costs
+pub sum_within : (cells : List CellCode) (size : CellCode → ℕ) → ((c : CellCode) → size c ≤ block_cost c.body)
+    → sum_by size cells ≤ sum_by (λ (c : CellCode). block_cost c.body) cells
+sum_within cells size h = sum_by-le-sum_by size (λ (c : CellCode). block_cost c.body) cells h
+
+-- a sum over a mapped list
+pub sum_mapped : {A B : Type 0} (f : B → ℕ) (g : A → B) (xs : List A) → sum_by f (map g xs) ≡ sum_by (λ x. f (g x)) xs
+sum_mapped f g [] = refl
+sum_mapped f g (x ∷ xs) =
+    sum_by-cons f (g x) (map g xs) ∙ ap (λ k. f (g x) + k) (sum_mapped f g xs) ∙ sym (sum_by-cons (λ x. f (g x)) x xs)

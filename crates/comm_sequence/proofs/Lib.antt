@@ -1,0 +1,16 @@
+pub mod AlikeWhere
+pub mod Below
+pub mod Cells
+pub mod CostSteps
+pub mod Counted
+pub mod Entries
+pub mod Examples
+pub mod Gathered
+pub mod Lengths
+pub mod Owned
+pub mod Pieces
+pub mod Plain
+pub mod SameLists
+pub mod SoundSequences
+pub mod Unbuffered
+pub mod Unrolled

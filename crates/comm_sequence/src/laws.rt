@@ -1,0 +1,17 @@
+ghost use Rattle.std.specs.Prelude.{◌≡◌, ◌↔◌, ℕ, List, []};
+ghost use Rattle.cell_types.specs.Alike.{Alike};
+ghost use Rattle.cell_types.specs.Code.{ProgramCode};
+ghost use Rattle.comm_sequence.specs.BufferedOrder.{events, IsBufferedOrder};
+ghost use Rattle.comm_sequence.specs.CrossingOrder.{IsCrossingOrder};
+ghost use Rattle.comm_sequence.specs.Differing.{all_differing};
+ghost use Rattle.comm_sequence.specs.Sequences.{Sequences};
+
+/// A law: the arms of a program communicate alike exactly where no `if` is listed whose arms differ.
+pub fn alike_where_none_differ()
+    ensures { (program : ProgramCode) → (Alike program ↔ (all_differing program ≡ [])) }
+{}
+
+/// A law: a crossing order is an order without a buffer, once each message in it is written as its write and then its read.
+pub fn crossing_orders_need_no_buffer()
+    ensures { (s : Sequences) (order : List ℕ) → IsCrossingOrder s order → IsBufferedOrder s 0 (events order) }
+{}

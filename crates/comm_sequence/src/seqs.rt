@@ -1,0 +1,115 @@
+ghost use Rattle.std.specs.Prelude.{◌≡◌, ◌<◌, [], length, slice_get, slice_index, slice_index_or, Some};
+ghost use Rattle.comm_sequence.specs.Sequences.{IsSequences};
+
+use crate::comm::Comm;
+use crate::cursor::Cursor;
+use sqlite_items::Items;
+use std::marker::Model;
+
+/// What the cells of a program write and read, the lengths of its messages, and how many words its cells take and emit.
+#[derive(Debug, Drop)]
+pub struct Seqs {
+    lists: Items<Items<Comm>>,
+    lengths: Items<u32>,
+    takes: Items<u32>,
+    emits: Items<u32>,
+    ends: Items<(u16, u16)>,
+}
+
+impl Model for Seqs {
+    ghost use Rattle.std.specs.Prelude.{List};
+    ghost use Rattle.comm_sequence.specs.Sequences.{Sequences, IsSequences};
+    ghost use Rattle.comm_sequence.specs.contracts.comm.Comm as comm;
+    ghost use Rattle.std.specs.Coded.{codes};
+
+    ghost Value = { Sequences };
+
+    ghost coded = { Prim.hlevel (codes, comm.the_row.coded) };
+
+    ghost view = { λ s. record { lists = s.lists; lengths = s.lengths; takes = s.takes; emits = s.emits; ends = s.ends } };
+
+    ghost invariant = { λ s. IsSequences (record { lists = s.lists; lengths = s.lengths; takes = s.takes; emits = s.emits; ends = s.ends }) };
+}
+
+impl Seqs {
+    /// The sequences with these parts.
+    pub(crate) fn new(
+        lists: Items<Items<Comm>>,
+        lengths: Items<u32>,
+        takes: Items<u32>,
+        emits: Items<u32>,
+        ends: Items<(u16, u16)>,
+    ) -> Seqs
+        requires { IsSequences (record { lists = lists; lengths = lengths; takes = takes; emits = emits; ends = ends }) }
+        ensures { result ≡ record { lists = lists; lengths = lengths; takes = takes; emits = emits; ends = ends } }
+    {
+        Seqs {
+            lists,
+            lengths,
+            takes,
+            emits,
+            ends,
+        }
+    }
+
+    /// The writes and reads of a cell, by its index, from the first on.
+    pub fn cursor(&self, cell: u16) -> Cursor<'_>
+        requires { cell < length self.now.lists }
+        ensures list { result ≡ slice_index_or self.now.lists cell [] }
+        ensures kept { IsSequences self.now }
+    {
+        Cursor::new(self.lists.as_slice()[cell as usize].as_slice())
+    }
+
+    /// The number of writes of a message, by its index.
+    pub fn length(&self, message: u16) -> u32
+        requires { message < length self.now.ends }
+        ensures length { result ≡ slice_index self.now.lengths message }
+        ensures kept { IsSequences self.now }
+    {
+        self.lengths.as_slice()[message as usize]
+    }
+
+    /// How many input words a cell takes, by its index.
+    pub fn takes(&self, cell: u16) -> u32
+        requires { cell < length self.now.lists }
+        ensures takes { result ≡ slice_index self.now.takes cell }
+        ensures kept { IsSequences self.now }
+    {
+        self.takes.as_slice()[cell as usize]
+    }
+
+    /// How many output words a cell emits, by its index.
+    pub fn emits(&self, cell: u16) -> u32
+        requires { cell < length self.now.lists }
+        ensures emits { result ≡ slice_index self.now.emits cell }
+        ensures kept { IsSequences self.now }
+    {
+        self.emits.as_slice()[cell as usize]
+    }
+
+    /// The sender and the receiver of a message, by its index.
+    pub fn ends(&self, message: u16) -> (u16, u16)
+        requires { message < length self.now.ends }
+        ensures ends { slice_get self.now.ends message ≡ Some result }
+        ensures kept { IsSequences self.now }
+    {
+        self.ends.as_slice()[message as usize]
+    }
+
+    /// The number of cells.
+    pub fn cells(&self) -> u16
+        ensures cells { result ≡ length self.now.lists }
+        ensures kept { IsSequences self.now }
+    {
+        self.lists.len() as u16
+    }
+
+    /// The number of messages.
+    pub fn messages(&self) -> u16
+        ensures messages { result ≡ length self.now.ends }
+        ensures kept { IsSequences self.now }
+    {
+        self.ends.len() as u16
+    }
+}
