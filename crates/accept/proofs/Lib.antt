@@ -1,11 +1,4 @@
-pub mod CellLoop
-pub mod Counts
-pub mod Loops
-pub mod Placed
 pub mod OneRefusal
-pub mod Places
 pub mod Refused
-pub mod Resolved
-pub mod Sources
-pub mod Steps
-pub mod Words
+pub mod Near
+pub mod Waits

@@ -1,6 +1,6 @@
 -- A text has at most one first refusal, and none where it is accepted.
 use Rattle.std.proofs.Common.{ℕ, ◌≡◌, List, [], Option, None, Some, inl, inr, true, false, take, slice_get, refl, sym, ap, subst, ◌∙◌}
-use Rattle.std.specs.Prelude.{MatchOption}
+use Rattle.std.specs.Prelude.{MatchOption, IsSomeAnd, All, map, ◌++◌, ◌∷◌}
 use Rattle.std.proofs.lemmas.Bool.{cases_order}
 use Rattle.cell_lexer.specs.declared.error.LexError.{LexError}
 use Rattle.cell_lexer.specs.declared.error.LexError.TheVariants as L
@@ -14,16 +14,24 @@ use Rattle.cell_parser.specs.Refusal.{HasPlace, WrongAt}
 use Rattle.cell_parser.specs.declared.error.ParseError.{ParseError}
 use Rattle.cell_parser.specs.declared.error.ParseError.TheVariants as P
 use Rattle.cell_tree.specs.declared.source.Source.{Source}
-use Rattle.crossing_off.specs.declared.Comm.{Comm}
-use Rattle.crossing_off.specs.Greedy.{left}
+use Rattle.cell_types.specs.Code.{ProgramCode}
+use Rattle.cell_types.specs.Faults.{faults}
+use Rattle.cell_types.specs.Resolved.{program_of}
+use Rattle.cell_types.specs.declared.error.StaticError.{StaticError}
+use Rattle.comm_sequence.specs.Differing.{all_differing}
+use Rattle.comm_sequence.specs.Sequences.{Sequences, sequences_of}
+use Rattle.crossing_off.specs.Greedy.{left, fronts}
+use Rattle.crossing_off.specs.Walk.{IsLeastLeft, IsWait, IsEnd, IsWalk}
+use Rattle.crossing_off.specs.declared.answer.Residue.{Residue}
+use Rattle.crossing_off.specs.declared.waits.WaitWalk.{WaitWalk}
 use Rattle.refusals.specs.declared.refusal.Refusal.{Refusal}
 use Rattle.refusals.specs.declared.refusal.Refusal.TheVariants as R
 use Rattle.accept.specs.declared.building.AcceptError.TheVariants as A
-use Rattle.accept.specs.FirstRefusal.{IsLong, IsMisspelt, IsOver, IsMisplaced, IsOutside, Leaves, IsStalled, Trials, Passed, Try, trials, IsFirstOf, PassesAll, FirstRefusal, Accepts}
+use Rattle.accept.specs.FirstRefusal.{IsLong, IsMisspelt, IsOver, IsMisplaced, IsFaulty, IsCostly, HasUnlikeArms, IsStuck, IsStalled, Trials, Passed, Try, trials, IsFirstOf, PassesAll, FirstRefusal, Accepts}
 use Rattle.accept.specs.Laws.{Laws}
 use Rattle.accept.specs.Reading.{misspelt, misplaced}
 use Rattle.accept.specs.Source.{IsSource}
-use Rattle.accept.specs.Straight.{lists}
+use Rattle.accept.specs.Told.{grid_of, static_refusal, wait_line, end_line, walk_lines}
 
 -- ---- the first token over a limit
 
@@ -86,13 +94,25 @@ pub misplacing : (text : List ℕ) (r : Refusal) → IsMisplaced text r → Misp
 misplacing text (R.Unexpected line column) h = (line, column, h, refl)
 misplacing text _ h = absurd h
 
+-- The refusal is that of the first `if` whose arms differ.
+abbrev pub Unlikeness : List ℕ → Refusal → Type 0
+Unlikeness text r =
+    (line : ℕ) × ((s : Source) × IsSource text s × (cell : ℕ) × (slice_get (all_differing (program_of s)) 0 ≡ Some (cell, line)))
+    × (r ≡ R.ArmsDiffer line)
+
+-- and so is each one of the trial
+pub unlikeness : (text : List ℕ) (r : Refusal) → HasUnlikeArms text r → Unlikeness text r
+unlikeness text (R.ArmsDiffer line) h = (line, h, refl)
+unlikeness text _ h = absurd h
+
 -- The refusal is that of a source that crossing-off doesn't empty.
 abbrev pub Stalling : List ℕ → Refusal → Type 0
-Stalling text r = (n : ℕ) × ((s : Source) × IsSource text s × Leaves (lists s) n) × (r ≡ R.Crossing n [])
+Stalling text r =
+    (n : ℕ) × (walk : List (List ℕ)) × ((s : Source) × IsSource text s × IsStuck (program_of s) n walk) × (r ≡ R.Crossing n walk)
 
 -- and so is each one of the trial
 pub stalling : (text : List ℕ) (r : Refusal) → IsStalled text r → Stalling text r
-stalling text (R.Crossing n walk) (s, is, leaves, e) = (n, (s, is, leaves), ap (λ w. R.Crossing n w) e)
+stalling text (R.Crossing n walk) h = (n, walk, h, refl)
 stalling text _ h = absurd h
 
 -- ---- each trial gives one refusal
@@ -122,9 +142,44 @@ first_unique (Try Applies rest) one text r q (inr a) (inr b) = first_unique rest
 long_unique : IsUnique IsLong
 long_unique text r q h k = h.1 ∙ sym k.1
 
--- a source is outside in one way
-outside_unique : IsUnique IsOutside
-outside_unique text r q h k = h.1 ∙ sym k.1
+-- cells cost too much in one way
+costly_unique : IsUnique IsCostly
+costly_unique text r q h k = h.1 ∙ sym k.1
+
+-- nothing is no value
+pub none_some : {X : Type 0} (x : X) → ◌≡◌ {A = Option X} None (Some x) → ⊥
+none_some x e = cc
+
+-- what is there is one value
+same_some : {A : Type 0} (x y : A) → Some x ≡ Some y → x ≡ y
+same_some x y e = cc
+
+-- the first fault of a source is told in one way
+same_fault : (s : Source) (e f : StaticError) (r q : Refusal) → slice_get (faults s) 0 ≡ Some e → slice_get (faults s) 0 ≡ Some f
+    → static_refusal (grid_of s) e ≡ Some r → static_refusal (grid_of s) f ≡ Some q → r ≡ q
+same_fault s e f r q x y told told_f =
+    let same : e ≡ f = same_some e f (sym x ∙ y) in
+    same_some r q (sym told ∙ ap (static_refusal (grid_of s)) same ∙ told_f)
+
+-- the first `if` of a program has one line
+same_if : (p : ProgramCode) (c d l m : ℕ) → slice_get (all_differing p) 0 ≡ Some (c, l) → slice_get (all_differing p) 0 ≡ Some (d, m)
+    → l ≡ m
+same_if p c d l m x y = let same : ◌≡◌ {A = ℕ × ℕ} (c, l) (d, m) = same_some (c, l) (d, m) (sym x ∙ y) in ap (λ (at : ℕ × ℕ). at.1) same
+
+-- a walk is one of each residue with the same first operations
+walk_over : (s : Sequences) (a b : Residue) (w : WaitWalk) → a.fronts.items ≡ b.fronts.items → IsWalk s a w → IsWalk s b w
+walk_over s a b w e h = record {
+  begins = subst (λ fs. IsSomeAnd (slice_get w.waits.items 0) (λ first. IsLeastLeft fs first.cell)) e h.begins;
+  waits = subst (λ fs. All (IsWait s fs) w.waits.items) e h.waits;
+  goes_on = h.goes_on;
+  differ = h.differ;
+  ends = subst (λ fs. IsEnd fs w.waits.items w.end) e h.ends;
+}
+
+-- walks over the same waits with the same end have the same lines
+same_lines : (p : ProgramCode) (a b : WaitWalk) → a.waits.items ≡ b.waits.items → a.end ≡ b.end → walk_lines p a ≡ walk_lines p b
+same_lines p a b e f =
+    ap (λ ws. map (wait_line p) ws ++ end_line p a.end ∷ []) e ∙ ap (λ n. map (wait_line p) b.waits.items ++ end_line p n ∷ []) f
 
 -- a token, or the end of the text, has one line and one column
 place_unique : (text : List ℕ) (o : Option Token) (l c m d : ℕ) → HasPlace text o l c → HasPlace text o m d → R.Unexpected l c ≡ R.Unexpected m d
@@ -167,24 +222,45 @@ module _ (laws : Laws) where
       let ts : h.tokens ≡ k.tokens = laws.tokens text h.tokens k.tokens h.lexed k.lexed in
       laws.program (lexemes text k.tokens) s t (subst (λ us. Reads (lexemes text us) s) ts h.read) k.read
 
-  -- crossing-off leaves one number of operations
-  leaves_unique : (all : List (List Comm)) (m n : ℕ) → Leaves all m → Leaves all n → m ≡ n
-  leaves_unique all m n h k =
-      h.some.2 ∙ ap (left all) (laws.order all h.some.0 k.some.0 h.some.1 k.some.1) ∙ sym k.some.2
+  -- a source has one first fault
+  faulty_unique : IsUnique IsFaulty
+  faulty_unique text r q (s, is, e, first, told) (t, it, f, first_f, told_f) =
+      let moved = subst (λ u. (slice_get (faults u) 0 ≡ Some e) × (static_refusal (grid_of u) e ≡ Some r)) (one_source text s t is it) (first, told) in
+      same_fault t e f r q moved.0 first_f moved.1 told_f
+
+  -- arms differ first on one line
+  unlike_unique : IsUnique HasUnlikeArms
+  unlike_unique text r q h k =
+      let (l, (s, is, c, at), e) = unlikeness text r h in
+      let (m, (t, it, d, there), f) = unlikeness text q k in
+      let moved = subst (λ u. slice_get (all_differing (program_of u)) 0 ≡ Some (c, l)) (one_source text s t is it) at in
+      e ∙ ap (λ n. R.ArmsDiffer n) (same_if (program_of t) c d l m moved there) ∙ sym f
+
+  -- a program is stuck in one way
+  stuck_unique : (p : ProgramCode) (m n : ℕ) (v w : List (List ℕ)) → IsStuck p m v → IsStuck p n w → R.Crossing m v ≡ R.Crossing n w
+  stuck_unique p m n v w (a, ha, la, wa, iwa, ea) (b, hb, lb, wb, iwb, eb) =
+      let s : Sequences = sequences_of p in
+      let x = ha.is_residue in
+      let y = hb.is_residue in
+      let order : x.crossed ≡ y.crossed = laws.order s x.crossed y.crossed x.rule y.rule in
+      let lefts : m ≡ n = la ∙ x.left_is ∙ ap (left s) order ∙ sym y.left_is ∙ sym lb in
+      let firsts : a.fronts.items ≡ b.fronts.items = x.fronts_are ∙ ap (fronts s) order ∙ sym y.fronts_are in
+      let walks = laws.walk s b wa wb (walk_over s a b wa firsts iwa) iwb in
+      let lines : v ≡ w = ea ∙ same_lines p wa wb walks.0 walks.1 ∙ sym eb in
+      λ i. R.Crossing (lefts i) (lines i)
 
   -- a source stalls in one way
   stalled_unique : IsUnique IsStalled
   stalled_unique text r q h k =
-      let (m, x, e) = stalling text r h in
-      let (n, y, f) = stalling text q k in
-      let s : x.0 ≡ y.0 = one_source text x.0 y.0 x.1 y.1 in
-      e ∙ ap (λ i. R.Crossing i []) (leaves_unique (lists y.0) m n (subst (λ t. Leaves (lists t) m) s x.2) y.2) ∙ sym f
+      let (m, v, (s, is, x), e) = stalling text r h in
+      let (n, w, (t, it, y), f) = stalling text q k in
+      e ∙ stuck_unique (program_of t) m n v w (subst (λ u. IsStuck (program_of u) m v) (one_source text s t is it) x) y ∙ sym f
 
   -- a text has one first refusal at most
   pub one_refusal : (text : List ℕ) (r q : Refusal) → FirstRefusal text r → FirstRefusal text q → r ≡ q
   one_refusal =
       first_unique trials
-      (long_unique, (misspelt_unique, (over_unique, (misplaced_unique, (outside_unique, (stalled_unique, tt))))))
+      (long_unique, (misspelt_unique, (over_unique, (misplaced_unique, (faulty_unique, (costly_unique, (unlike_unique, (stalled_unique, tt))))))))
 
 -- where no trial applies, none is the first that applies
 accepted_of : (ts : Trials) (text : List ℕ) (r : Refusal) → PassesAll ts text → IsFirstOf ts text r → ⊥

@@ -1,7 +1,7 @@
 pub mod Source
-pub mod Laws
-pub mod Straight
-pub mod Resolving
-pub mod Reading
+pub mod Told
 pub mod FirstRefusal
 pub mod Built
+pub mod Reading
+pub mod Answers
+pub mod Laws

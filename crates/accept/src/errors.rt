@@ -1,11 +1,12 @@
 //! What the errors of the layers below come to.
 ghost use Rattle.std.specs.Prelude.{◌≡◌};
-ghost use Rattle.accept.specs.Reading.{misspelt, misplaced};
+ghost use Rattle.accept.specs.Reading.{misspelt, misplaced, unlike};
 ghost use Rattle.accept.specs.declared.building.AcceptError.TheVariants as A;
 
 use crate::building::AcceptError;
 use cell_lexer::LexError;
 use cell_parser::ParseError;
+use comm_sequence::CommError;
 use refusals::Refusal;
 use sys_base::Memory;
 
@@ -41,6 +42,19 @@ impl From<ParseError> for AcceptError {
                 AcceptError::Refused(Refusal::Unexpected { line, column })
             }
             ParseError::Memory => AcceptError::Memory,
+        }
+    }
+}
+
+impl From<CommError> for AcceptError {
+    ghost from_gives = { λ error e. e ≡ unlike error };
+
+    fn from(error: CommError) -> AcceptError {
+        match error {
+            CommError::ArmsDiffer { line, .. } => {
+                AcceptError::Refused(Refusal::ArmsDiffer { line })
+            }
+            CommError::Memory => AcceptError::Memory,
         }
     }
 }

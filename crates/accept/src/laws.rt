@@ -5,7 +5,8 @@ ghost use Rattle.accept.specs.Laws.{Laws};
 
 use cell_lexer::one_outcome;
 use cell_parser::{one_first_wrong, one_program};
-use crossing_off::one_greedy_order;
+use comm_sequence::alike_where_none_differ;
+use crossing_off::{one_greedy_order, one_walk};
 
 /// A law: a text has at most one first refusal, and none where it is accepted.
 pub fn one_first_refusal()
@@ -22,5 +23,7 @@ pub(crate) fn laws_below()
     one_outcome();
     one_program();
     one_first_wrong();
+    alike_where_none_differ();
     one_greedy_order();
+    one_walk();
 }

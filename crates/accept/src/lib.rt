@@ -4,7 +4,9 @@
 mod building;
 mod errors;
 mod laws;
-mod straight;
+mod places;
+mod static_faults;
+mod walks;
 
 pub use building::{AcceptError, Built, build};
 pub use laws::one_first_refusal;

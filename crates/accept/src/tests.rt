@@ -1,15 +1,20 @@
+ghost use Rattle.std.specs.Prelude.{IfOk, IsTrue};
+ghost use Rattle.refusals.specs.Texts.{is_kind_known};
+
 use crate::{AcceptError, Built, build, one_first_refusal};
-use refusals::text;
+use refusals::{Refusal, explain, text};
 use std::alloc::{AllocGlobal, Global};
 use std::process::Abort;
 use std::test::Fail;
 
-/// The line of the first refusal of a text.
-fn refused(alloc: Global, source: &[u8]) -> Result<Vec<u8>, Fail> {
+/// The first refusal of a text.
+fn refusal(alloc: Global, source: &[u8]) -> Result<Refusal, Fail>
+    ensures { IfOk result (λ r. IsTrue (is_kind_known r)) }
+{
     match build(alloc, source) {
         Ok(_) => Err("accepted".into()),
         Err(AcceptError::Memory) => Err("out of memory".into()),
-        Err(AcceptError::Refused(refusal)) => Ok(text(alloc, &refusal)?),
+        Err(AcceptError::Refused(refusal)) => Ok(refusal),
     }
 }
 
@@ -22,32 +27,64 @@ fn accepted(alloc: Global, source: &[u8]) -> Result<Built, Fail> {
     }
 }
 
+/// The text is refused with this line.
 fn expect<R: Abort + AllocGlobal>(rt: &R, source: &[u8], line: &str) -> Result<(), Fail> {
-    let found = refused(rt.alloc(), source)?;
+    let found = text(rt.alloc(), &refusal(rt.alloc(), source)?)?;
     assert_eq!(rt; found.as_slice(), line.as_bytes());
     Ok(())
 }
 
+/// The text is refused with this explanation.
+fn expect_explained<R: Abort + AllocGlobal>(
+    rt: &R,
+    source: &[u8],
+    lines: &str,
+) -> Result<(), Fail> {
+    let found = explain(rt.alloc(), &refusal(rt.alloc(), source)?)?;
+    assert_eq!(rt; found.as_slice(), lines.as_bytes());
+    Ok(())
+}
+
+/// A source of one cell whose cost is one more than the limit allows where `last` has a unary minus.
+fn costly(alloc: Global, last: &[u8]) -> Result<Vec<u8>, Fail> {
+    let mut source = Vec::new(alloc);
+    source.extend_from_slice(b"array 1 x 1; queues 1; cell 0.0 { var x; for i 65535 { ")?;
+    for _ in 0..30 {
+        source.extend_from_slice(b"x = 0; ")?;
+    }
+    source.extend_from_slice(b"x = -x; } ")?;
+    for _ in 0..29 {
+        source.extend_from_slice(b"x = 0; ")?;
+    }
+    source.extend_from_slice(last)?;
+    source.extend_from_slice(b" x = -x; }")?;
+    Ok(source)
+}
+
 #[test]
-fn accepts_a_straight_source(rt: HostRuntime) -> Result<(), Fail> {
+fn accepts_programs(rt: HostRuntime) -> Result<(), Fail> {
     one_first_refusal();
-    let source =
+    let line =
         b"array 1 x 2; queues 1; message A from 0.0 to 0.1; cell 0.0 { write A 7; } cell 0.1 { var x; read A x; emit x; }";
-    let built = accepted(rt.alloc(), source)?;
+    let built = accepted(rt.alloc(), line)?;
     assert_eq!(rt; built.order.as_slice(), [0].as_slice());
+    let branches = b"array 1 x 2; queues 1; message A from 0.0 to 0.1;\n\
+        cell 0.0 { if 1 { for i 2 { write A 1; } } else { write A 2; write A 3; } }\n\
+        cell 0.1 { var x; for i 2 { read A x; emit x; } }";
+    let built = accepted(rt.alloc(), branches)?;
+    assert_eq!(rt; built.order.as_slice(), [0, 0].as_slice());
+    let built = accepted(rt.alloc(), &costly(rt.alloc(), b"x = 0;")?)?;
+    assert_eq!(rt; built.order.len(), 0);
     Ok(())
 }
 
 #[test]
-fn refuses_what_is_misspelt(rt: HostRuntime) -> Result<(), Fail> {
+fn refuses_what_is_misspelt_or_misplaced(rt: HostRuntime) -> Result<(), Fail> {
+    expect(&rt, b"@", "E01 byte at 0 is not part of the language")?;
+    expect(&rt, b"", "E02 line 1 column 1: not expected here")?;
     expect(
         &rt,
-        b"array 1 x 1; queues 1; $",
-        "E01 byte at 23 is not part of the language",
-    )?;
-    expect(
-        &rt,
-        b"array 9223372036854775808 ;",
+        b"array 1 x 9223372036854775808;",
         "E03 line 1: the number is more than 9223372036854775807",
     )?;
     expect(
@@ -71,29 +108,105 @@ fn refuses_what_is_too_long(rt: HostRuntime) -> Result<(), Fail> {
 }
 
 #[test]
-fn refuses_what_is_misplaced(rt: HostRuntime) -> Result<(), Fail> {
+fn refuses_wrong_declarations(rt: HostRuntime) -> Result<(), Fail> {
     expect(
         &rt,
-        b"array 1 x 2;\nqueues 1",
-        "E02 line 2 column 9: not expected here",
+        b"array 17 x 1; queues 1;",
+        "E10 line 1: rows are 1 to 16",
+    )?;
+    expect(
+        &rt,
+        b"array 1 x 2; queues 1; message A from 0.0 to 0.1; message A from 0.0 to 0.1;",
+        "E11 line 1: A stands twice",
+    )?;
+    expect(
+        &rt,
+        b"array 1 x 2; queues 1; message A from 0.0 to 1.0;",
+        "E12 line 1: outside the grid",
+    )?;
+    expect(
+        &rt,
+        b"array 1 x 2; queues 1; message A from 0.0 to 0.0;",
+        "E13 line 1: A goes to its own sender",
     )
 }
 
 #[test]
-fn refuses_what_is_outside(rt: HostRuntime) -> Result<(), Fail> {
-    let line = "E00 not a straight source";
-    expect(&rt, b"array 17 x 1; queues 1;", line)?;
-    expect(&rt, b"array 1 x 2; queues 1; link 0.0 E queues 2;", line)?;
+fn refuses_what_stands_twice(rt: HostRuntime) -> Result<(), Fail> {
     expect(
         &rt,
-        b"array 1 x 2; queues 1; message A from 0.0 to 0.1 route E;",
-        line,
+        b"array 1 x 2; queues 1; link 0.1 W queues 1; link 0.1 W queues 1;",
+        "E11 line 1: 0.1W stands twice",
     )?;
-    expect(&rt, b"array 1 x 1; queues 1; cell 0.0 { emit 1; }", line)
+    expect(
+        &rt,
+        b"array 2 x 2; queues 1; cell 1.0 { } cell 1.0 { }",
+        "E11 line 1: 1.0 stands twice",
+    )
 }
 
 #[test]
-fn refuses_what_is_stalled(rt: HostRuntime) -> Result<(), Fail> {
-    let source = b"array 1 x 2; queues 1; message A from 0.0 to 0.1; cell 0.0 { write A 7; }";
-    expect(&rt, source, "E30 crossing-off leaves 1 operations")
+fn refuses_wrong_names(rt: HostRuntime) -> Result<(), Fail> {
+    expect(
+        &rt,
+        b"array 1 x 2; queues 1; message A from 0.0 to 0.1; cell 0.0 { write B 7; }",
+        "E14 line 1: B is not declared",
+    )?;
+    expect(
+        &rt,
+        b"array 1 x 2; queues 1; message A from 0.0 to 0.1; cell 0.0 { write A 7; } cell 0.1 { var x; read A x; emit x; write A 1; }",
+        "E16 line 1: cell 0.1 does not send A",
+    )?;
+    expect(
+        &rt,
+        b"array 1 x 1; queues 1; cell 0.0 { for i 2 { i = 1; } }",
+        "E17 line 1: i is a counter",
+    )
+}
+
+#[test]
+fn refuses_wrong_routes(rt: HostRuntime) -> Result<(), Fail> {
+    expect(
+        &rt,
+        b"array 1 x 2; queues 1; message A from 0.0 to 0.1 route E E;",
+        "E18 line 1: the route of A leaves the grid",
+    )?;
+    expect(
+        &rt,
+        b"array 1 x 2; queues 1; message A from 0.0 to 0.1 route E W;",
+        "E19 line 1: the route of A does not end at its receiver",
+    )?;
+    expect(
+        &rt,
+        b"array 1 x 2; queues 1; message A from 0.0 to 0.1 route E W E;",
+        "E20 line 1: the route of A uses link 0.0E twice",
+    )
+}
+
+#[test]
+fn refuses_costs_and_unlike_arms(rt: HostRuntime) -> Result<(), Fail> {
+    let dear = costly(rt.alloc(), b"x = -x;")?;
+    expect(&rt, &dear, "E60 the cells take more than 4194304 steps")?;
+    expect(
+        &rt,
+        b"array 1 x 1; queues 1;\ncell 0.0 { if 1 { emit 1; } else { } }",
+        "E15 line 2: the arms communicate differently",
+    )
+}
+
+#[test]
+fn explains_what_is_stalled(rt: HostRuntime) -> Result<(), Fail> {
+    let crossed =
+        b"array 1 x 2; queues 1; message A from 0.0 to 0.1; message B from 0.0 to 0.1; cell 0.0 { write A 1; write B 2; } cell 0.1 { var x; read B x; read A x; }";
+    expect(&rt, crossed, "E30 crossing-off leaves 4 operations")?;
+    expect_explained(
+        &rt,
+        crossed,
+        "E30 crossing-off leaves 4 operations\n0.0 waits to write A to 0.1\n0.1 waits to read B from 0.0\n0.0 again\n",
+    )?;
+    expect_explained(
+        &rt,
+        b"array 1 x 2; queues 1; message A from 0.0 to 0.1; cell 0.0 { write A 1; }",
+        "E30 crossing-off leaves 1 operations\n0.0 waits to write A to 0.1\n0.1 has nothing left\n",
+    )
 }

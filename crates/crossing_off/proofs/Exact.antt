@@ -1,18 +1,25 @@
 -- Where the greedy rule is stuck with something left, there is no crossing order of any kind: the first message of such an order that
 -- the rule has not crossed often enough could be crossed next.
-use Rattle.std.proofs.Common.{◌≡◌, ℕ, ◌-◌, ◌<◌, ◌≤◌, Bool, true, false, cond, List, [], ◌∷◌, ◌++◌, Some, length, get_or, take, drop, Contains, All, slice_index, EachIndex, sym, ◌∙◌, ap, subst, refl, ⊎_elim, arith}
-use Rattle.std.specs.List.{list_any}
-use Rattle.std.proofs.lemmas.Bool.{cases_lt, cases_Bool}
-use Rattle.std.proofs.lemmas.List.{append-nil, append_assoc, take-append-drop, take_all, length-drop, get_or-map, length-map}
-use Rattle.std.proofs.lemmas.List.Elements.{All-from_get_or, All-get_or, All-contains, filter-append, Contains-append_right, Contains-get_or}
+use Rattle.std.proofs.Common.{◌≡◌, ℕ, ◌<◌, ◌≤◌, Bool, true, false, cond, nat_eq, List, [], ◌∷◌, ◌++◌, Some, length, get_or, take, All, EachIndex, slice_get, slice_index, slice_index_or, sym, ◌∙◌, ap, subst, refl, ⊎_elim, arith}
+use Rattle.std.proofs.lemmas.Bool.{cases_lt, cases_Bool, eqb-true}
+use Rattle.std.proofs.lemmas.List.{append-nil, append_assoc, drop_all}
+use Rattle.std.proofs.lemmas.List.Concat.{flat_map-cons}
+use Rattle.std.proofs.lemmas.Grind.{flat_map-append}
+use Rattle.std.proofs.lemmas.List.Elements.{All-from_get_or, All-contains, Contains-append_right}
+use Rattle.std.proofs.lemmas.List.FromFn.{length-range_with_len, get_or-range_with_len}
 use Rattle.std.proofs.lemmas.List.Sums.{sum_by-le, get_or-le-sum_by}
-use Rattle.crossing_off.specs.declared.Comm.{Comm}
-use Rattle.crossing_off.specs.declared.Comm.TheVariants.{Write, Read}
-use Rattle.crossing_off.specs.Crossing.{same, events, made_by, HasBoth, IsCrossing, IsPlaced}
-use Rattle.crossing_off.specs.Greedy.{made, front, fronts, left, IsReady, IsLeastReady}
-use Rattle.crossing_off.specs.Worklist.{IsReached}
-use Rattle.crossing_off.proofs.Events.{one_if_same, times, crossings, times-cons_itself, times-cons, times-nil, times-events_write, times-events_read, times-made, crossings-push_itself, crossings-push_other, nothing_yet, events-append, has_from_Contains, lacks, eq_from_same}
-use Rattle.crossing_off.proofs.Lists.{Contains-map, Contains-from_slice_get, slice_get_from_drop}
+use Rattle.std.proofs.lemmas.Option.{slice_get_within}
+use Rattle.cell_types.specs.Groups.{below}
+use Rattle.comm_sequence.specs.BufferedOrder.{is_of}
+use Rattle.comm_sequence.specs.CrossingOrder.{seen, IsCrossingOrder}
+use Rattle.comm_sequence.specs.Sequences.{Sequences, IsSequences, message_of}
+use Rattle.comm_sequence.specs.declared.comm.Comm.{Comm}
+use Rattle.comm_sequence.specs.declared.comm.Comm.TheVariants.{Write, Read}
+use Rattle.crossing_off.specs.Greedy.{made, rest, front, left, IsReady, IsLeastReady}
+use Rattle.crossing_off.proofs.Counts.{one_if_same, times, crossings, times-cons_itself, times-cons, times-nil, times_made, crossings-push_itself, crossings-push_other, nothing_yet}
+use Rattle.crossing_off.proofs.Ends.{has_ends}
+use Rattle.crossing_off.proofs.Lists.{some_and, some_there}
+use Rattle.crossing_off.proofs.Seen.{IsReached, seen_by_sender, seen_by_receiver}
 
 -- ---- two front parts of one list
 meets : (a b r t : List Comm) (x : Comm) → a ++ x ∷ r ≡ b ++ t → ((y : Comm) → times y a ≤ times y b) → times x a ≡ times x b → t ≡ x ∷ r
@@ -28,6 +35,7 @@ meets (y ∷ a) (z ∷ b) r t x e h s =
     (λ w. omega (arith, h w, times-cons w y a, times-cons w z b, ap (one_if_same w) yz))
     (omega (arith, s, times-cons x y a, times-cons x z b, ap (one_if_same x) yz))
 
+-- a list that has no more than its front part has nothing behind it
 covers : (a b t : List Comm) → a ≡ b ++ t → ((y : Comm) → times y a ≤ times y b) → t ≡ []
 covers [] [] t e h = sym e
 covers [] (y ∷ b) t e h = cc
@@ -37,124 +45,104 @@ covers (y ∷ a) (z ∷ b) t e h =
     let tail : a ≡ b ++ t = cc in
     covers a b t tail (λ w. omega (arith, h w, times-cons w y a, times-cons w z b, ap (one_if_same w) yz))
 
+-- two numbers behind one test
 cond_le : (b : Bool) (x y : ℕ) → x ≤ y → cond b x 0 ≤ cond b y 0
 cond_le true x y h = h
 cond_le false x y h = omega arith
 
-times_le : (y : Comm) (ms ns : List ℕ) → ((m : ℕ) → crossings m ms ≤ crossings m ns) → times y (events ms) ≤ times y (events ns)
-times_le (Write m) ms ns h = omega (arith, h m, times-events_write m ms, times-events_write m ns)
-times_le (Read m) ms ns h = omega (arith, h m, times-events_read m ms, times-events_read m ns)
+-- ---- messages that are crossed no more often than others
+made_le : (s : Sequences) (c : ℕ) (ms ns : List ℕ) → ((m : ℕ) → crossings m ms ≤ crossings m ns) → (y : Comm) → times y (made s ms c) ≤ times y (made s ns c)
+made_le s c ms ns h y =
+    let a = times_made s c y ms in
+    let b = times_made s c y ns in
+    let l = cond_le (is_of s.ends c y) _ _ (h (message_of y)) in
+    omega (arith, a, b, l)
 
-made_le : (list : List Comm) (ms ns : List ℕ) → ((m : ℕ) → crossings m ms ≤ crossings m ns) → (y : Comm) → times y (made_by list (events ms)) ≤ times y (made_by list (events ns))
-made_le list ms ns h y =
-    let a = times-made list y (events ms) in
-    let b = times-made list y (events ns) in
-    let c = cond_le (list_any (same y) list) _ _ (times_le y ms ns h) in
-    omega (arith, a, b, c)
+-- an operation is made as often where its message is crossed as often
+made_same : (s : Sequences) (c : ℕ) (ms ns : List ℕ) (y : Comm) → crossings (message_of y) ms ≡ crossings (message_of y) ns → times y (made s ms c) ≡ times y (made s ns c)
+made_same s c ms ns y h =
+    times_made s c y ms ∙ ap (λ n. cond (is_of s.ends c y) n 0) h ∙ sym (times_made s c y ns)
 
-made_same : (list : List Comm) (ms ns : List ℕ) (y : Comm) → times y (events ms) ≡ times y (events ns) → times y (made_by list (events ms)) ≡ times y (made_by list (events ns))
-made_same list ms ns y h =
-    times-made list y (events ms) ∙ ap (λ n. cond (list_any (same y) list) n 0) h ∙ sym (times-made list y (events ns))
-
--- the rule's part of the list, and the rest
-whole : (list : List Comm) (crossed : List ℕ) → IsReached (events crossed) list → list ≡ made_by list (events crossed) ++ drop (made crossed list) list
-whole list crossed h =
-    sym (take-append-drop (made crossed list) list) ∙ ap (λ xs. xs ++ drop (made crossed list) list) (sym h)
-
-front_meets : (list : List Comm) (e : Comm) (rest : List Comm) (crossed pre post : List ℕ) (m : ℕ) → IsReached (events crossed) list
-    → made_by list (events (pre ++ m ∷ post)) ≡ list → made_by list (events (m ∷ post)) ≡ e ∷ rest
-    → ((k : ℕ) → crossings k pre ≤ crossings k crossed) → times e (events pre) ≡ times e (events crossed) → front crossed list ≡ Some e
-front_meets list e rest crossed pre post m reached each next h s =
-    let parts : made_by list (events pre) ++ made_by list (events (m ∷ post)) ≡ list = sym (filter-append _ (events pre) (events (m ∷ post))) ∙ ap (made_by list) (sym (events-append pre (m ∷ post))) ∙ each in
-    let two : made_by list (events pre) ++ e ∷ rest ≡ made_by list (events crossed) ++ drop (made crossed list) list = ap (λ xs. made_by list (events pre) ++ xs) (sym next) ∙ parts ∙ whole list crossed reached in
-    slice_get_from_drop list (made crossed list) e rest (meets _ _ rest _ e two (made_le list pre crossed h) (made_same list pre crossed e s))
-
-begins_write : (list : List Comm) (m : ℕ) (es : List Comm) → list_any (same (Write m)) list ≡ true → made_by list (Write m ∷ Read m ∷ es) ≡ Write m ∷ made_by list (Read m ∷ es)
-begins_write list m es h = ap (λ b. cond b (Write m ∷ made_by list (Read m ∷ es)) (made_by list (Read m ∷ es))) h
-
-begins_read : (list : List Comm) (m : ℕ) (es : List Comm) → list_any (same (Write m)) list ≡ false → list_any (same (Read m)) list ≡ true → made_by list (Write m ∷ Read m ∷ es) ≡ Read m ∷ made_by list es
-begins_read list m es n h =
-    ap (λ b. cond b (Write m ∷ made_by list (Read m ∷ es)) (made_by list (Read m ∷ es))) n ∙ ap (λ b. cond b (Read m ∷ made_by list es) (made_by list es)) h
+-- where an order and the rule have crossed a message as often, the rule is at its operation
+front_meets : (s : Sequences) (c : ℕ) (e : Comm) (crossed pre post : List ℕ) (m : ℕ) → IsReached s crossed c
+    → made s (pre ++ m ∷ post) c ≡ slice_index_or s.lists c [] → seen s.ends c m ≡ e ∷ [] → message_of e ≡ m
+    → ((k : ℕ) → crossings k pre ≤ crossings k crossed) → crossings m pre ≡ crossings m crossed → front s crossed c ≡ Some e
+front_meets s c e crossed pre post m reached each is on h same =
+    let parts : made s pre c ++ e ∷ made s post c ≡ made s (pre ++ m ∷ post) c =
+    ap (λ xs. made s pre c ++ (xs ++ made s post c)) (sym is)
+    ∙ ap (λ xs. made s pre c ++ xs) (sym (flat_map-cons (seen s.ends c) m post))
+    ∙ sym (flat_map-append (seen s.ends c) pre (m ∷ post)) in
+    let two : made s pre c ++ e ∷ made s post c ≡ made s crossed c ++ rest s crossed c = parts ∙ each ∙ sym reached in
+    let as_often : crossings (message_of e) pre ≡ crossings (message_of e) crossed = ap (λ n. crossings n pre) on ∙ same ∙ ap (λ n. crossings n crossed) (sym on) in
+    let met = meets (made s pre c) (made s crossed c) (made s post c) (rest s crossed c) e two (made_le s c pre crossed h) (made_same s c pre crossed e as_often) in
+    ap (λ xs. slice_get xs 0) met
 
 -- a message that an order crosses once more than the rule did can be crossed next
-next_is_ready : (lists : List (List Comm)) (count : ℕ) (crossed pre post : List ℕ) (m : ℕ) → IsPlaced lists count → All (IsReached (events crossed)) lists → HasBoth lists m
-    → All (λ list. made_by list (events (pre ++ m ∷ post)) ≡ list) lists → ((k : ℕ) → crossings k pre ≤ crossings k crossed) → crossings m pre ≡ crossings m crossed → IsReady lists crossed m
-next_is_ready lists count crossed pre post m placed reached both each h s =
-    let w = both.written in
-    let r = both.read in
-    let at_w = All-contains (λ list. made_by list (events (pre ++ m ∷ post)) ≡ list) lists w.0 each w.1 in
-    let at_r = All-contains (λ list. made_by list (events (pre ++ m ∷ post)) ≡ list) lists r.0 each r.1 in
-    let reached_w = All-contains (IsReached (events crossed)) lists w.0 reached w.1 in
-    let reached_r = All-contains (IsReached (events crossed)) lists r.0 reached r.1 in
-    let no_write = lacks r.0 (Write m) (λ c. placed.apart m r.0 r.1 c r.2) in
-    record {
-      write = Contains-map (front crossed) lists w.0 (Some (Write m)) w.1
-          (front_meets w.0 (Write m) _ crossed pre post m reached_w at_w (begins_write w.0 m (events post) (has_from_Contains w.0 (Write m) w.2)) h
-          (times-events_write m pre ∙ s ∙ sym (times-events_write m crossed)));
-      read = Contains-map (front crossed) lists r.0 (Some (Read m)) r.1
-          (front_meets r.0 (Read m) _ crossed pre post m reached_r at_r (begins_read r.0 m (events post) no_write (has_from_Contains r.0 (Read m) r.2)) h
-          (times-events_read m pre ∙ s ∙ sym (times-events_read m crossed)));
-    }
+next_is_ready : (s : Sequences) (crossed pre post : List ℕ) (m : ℕ) → IsSequences s → EachIndex s.lists (IsReached s crossed) → m < length s.ends
+    → EachIndex s.lists (λ c. made s (pre ++ m ∷ post) c ≡ slice_index_or s.lists c []) → ((k : ℕ) → crossings k pre ≤ crossings k crossed)
+    → crossings m pre ≡ crossings m crossed → IsReady s crossed m
+next_is_ready s crossed pre post m sound reached known each h same =
+    let e = has_ends s m sound known in
+    some_and (λ (x : ℕ × ℕ). (front s crossed x.0 ≡ Some (Write m)) × (front s crossed x.1 ≡ Some (Read m))) (slice_get s.ends m) (e.sender, e.receiver) e.is (
+      front_meets s e.sender (Write m) crossed pre post m (reached e.sender e.sender_in) (each e.sender e.sender_in) (seen_by_sender s.ends m e.sender e.receiver e.is e.apart) refl h same,
+      front_meets s e.receiver (Read m) crossed pre post m (reached e.receiver e.receiver_in) (each e.receiver e.receiver_in) (seen_by_receiver s.ends m e.sender e.receiver e.is e.apart) refl h same,
+    )
 
+-- crossed once more, and still no more often than by the rule
 crossings-push-le : (k m : ℕ) (pre crossed : List ℕ) → crossings k pre ≤ crossings k crossed → crossings m pre < crossings m crossed → crossings k (pre ++ m ∷ []) ≤ crossings k crossed
 crossings-push-le k m pre crossed h l =
     ⊎_elim
-    (λ t. let e : Write k ≡ Write m = eq_from_same (Write k) (Write m) t in let km : k ≡ m = cc in let P : ℕ → Type 0 = λ n. crossings n (pre ++ m ∷ []) ≤ crossings n crossed in subst P (sym km) (omega (arith, crossings-push_itself m pre)))
+    (λ t. let km : k ≡ m = eqb-true k m t in let P : ℕ → Type 0 = λ n. crossings n (pre ++ m ∷ []) ≤ crossings n crossed in subst P (sym km) (omega (arith, crossings-push_itself m pre)))
     (λ f. omega (arith, h, crossings-push_other k m pre f))
-    (cases_Bool (same (Write k) (Write m)))
+    (cases_Bool (nat_eq k m))
 
-walk : (lists : List (List Comm)) (count : ℕ) (crossed pre post : List ℕ) → IsPlaced lists count → All (IsReached (events crossed)) lists
-    → ((m : ℕ) → IsReady lists crossed m → ⊥) → All (HasBoth lists) (pre ++ post) → All (λ list. made_by list (events (pre ++ post)) ≡ list) lists
+-- an order crosses no message more often than the rule did, where the rule is stuck
+through : (s : Sequences) (crossed pre post : List ℕ) → IsSequences s → EachIndex s.lists (IsReached s crossed)
+    → ((m : ℕ) → IsReady s crossed m → ⊥) → All (λ m. m < length s.ends) (pre ++ post) → EachIndex s.lists (λ c. made s (pre ++ post) c ≡ slice_index_or s.lists c [])
     → ((k : ℕ) → crossings k pre ≤ crossings k crossed) → (k : ℕ) → crossings k (pre ++ post) ≤ crossings k crossed
-walk lists count crossed pre [] placed reached stuck both each h k = omega (arith, h k, ap (crossings k) (append-nil pre))
-walk lists count crossed pre (m ∷ post) placed reached stuck both each h k =
-    let e : pre ++ m ∷ [] ++ post ≡ pre ++ m ∷ post = append_assoc pre (m ∷ []) post in
-    let has_both = All-contains (HasBoth lists) (pre ++ m ∷ post) m both (Contains-append_right pre (m ∷ post) m (0, omega arith, refl)) in
+through s crossed pre [] sound reached stuck known each h k = omega (arith, h k, ap (crossings k) (append-nil pre))
+through s crossed pre (m ∷ post) sound reached stuck known each h k =
+    let e : (pre ++ m ∷ []) ++ post ≡ pre ++ m ∷ post = append_assoc pre (m ∷ []) post in
+    let here : m < length s.ends = All-contains (λ m. m < length s.ends) (pre ++ m ∷ post) m known (Contains-append_right pre (m ∷ post) m (0, omega arith, refl)) in
     ⊎_elim
-    (λ l. let P : List ℕ → Type 0 = λ ms. (All (HasBoth lists) ms) × (All (λ list. made_by list (events ms) ≡ list) lists) in
-    let both_each = subst P (sym e) (both, each) in
-    let r = walk lists count crossed (pre ++ m ∷ []) post placed reached stuck both_each.0 both_each.1 (λ n. crossings-push-le n m pre crossed (h n) l) k in
+    (λ l. let P : List ℕ → Type 0 = λ ms. (All (λ m. m < length s.ends) ms) × (EachIndex s.lists (λ c. made s ms c ≡ slice_index_or s.lists c [])) in
+    let both = subst P (sym e) (known, each) in
+    let r = through s crossed (pre ++ m ∷ []) post sound reached stuck both.0 both.1 (λ n. crossings-push-le n m pre crossed (h n) l) k in
     omega (arith, r, ap (crossings k) e))
-    (λ g. absurd (stuck m (next_is_ready lists count crossed pre post m placed reached has_both each h (omega (arith, h m, g)))))
+    (λ g. absurd (stuck m (next_is_ready s crossed pre post m sound reached here each h (omega (arith, h m, g)))))
     (cases_lt (crossings m pre) (crossings m crossed))
 
-pub nothing_left : (lists : List (List Comm)) (count : ℕ) (crossed order : List ℕ) → IsPlaced lists count → All (IsReached (events crossed)) lists
-    → ((m : ℕ) → IsReady lists crossed m → ⊥) → IsCrossing lists order → left lists crossed ≡ 0
-nothing_left lists count crossed order placed reached stuck crossing =
-    let bound = walk lists count crossed [] order placed reached stuck crossing.both crossing.each (λ k. nothing_yet k crossed) in
-    let none : All (λ list. length list - made crossed list ≤ 0) lists = All-from_get_or (λ list. length list - made crossed list ≤ 0) lists [] (λ c l.
-    let list = get_or lists c [] in
-    let at = All-get_or (λ xs. made_by xs (events order) ≡ xs) lists c [] l crossing.each in
-    let reached_at = All-get_or (IsReached (events crossed)) lists c [] l reached in
-    let e = covers _ _ _ (at ∙ whole list crossed reached_at) (made_le list order crossed bound) in
-    omega (arith, length-drop (made crossed list) list, ap length e)) in
-    omega (arith, sum_by-le (λ list. length list - made crossed list) 0 lists none)
+-- the cell at a place among all cells
+pub cell_at : (n i : ℕ) → i < n → get_or (below n) i 0 ≡ i
+cell_at n i l = get_or-range_with_len 0 n i 0 l ∙ (omega arith)
+
+-- where there is an order, a rule that is stuck leaves nothing
+pub nothing_left : (s : Sequences) (crossed order : List ℕ) → IsSequences s → EachIndex s.lists (IsReached s crossed)
+    → ((m : ℕ) → IsReady s crossed m → ⊥) → IsCrossingOrder s order → left s crossed ≡ 0
+nothing_left s crossed order sound reached stuck crossing =
+    let n = length s.lists in
+    let cells = length-range_with_len 0 n in
+    let bound = through s crossed [] order sound reached stuck crossing.known crossing.each (λ k. nothing_yet k crossed) in
+    let Short : ℕ → Type 0 = λ c. length (rest s crossed c) ≤ 0 in
+    let none : All Short (below n) = All-from_get_or Short (below n) 0 (λ i l.
+    let in' : i < n = omega arith in
+    let e = covers (made s order i) (made s crossed i) (rest s crossed i) (crossing.each i in' ∙ sym (reached i in')) (made_le s i order crossed bound) in
+    let short : Short i = omega (arith, ap length e) in
+    subst Short (sym (cell_at n i in')) short) in
+    omega (arith, sum_by-le (λ c. length (rest s crossed c)) 0 (below n) none)
 
 -- ---- with nothing left, the rule's messages are a crossing order
-pub ready_place : (lists : List (List Comm)) (crossed : List ℕ) (e : Comm) → Contains (fronts lists crossed) (Some e)
-    → (c : ℕ) × (c < length lists) × (front crossed (get_or lists c []) ≡ Some e)
-ready_place lists crossed e h =
-    let l : h.0 < length lists = omega (arith, h.1, length-map lists (front crossed)) in
-    (h.0, l, sym (get_or-map (front crossed) lists h.0 [] (Some e) l) ∙ h.2)
-
-placed_place : (lists : List (List Comm)) (crossed : List ℕ) (e : Comm) → Contains (fronts lists crossed) (Some e)
-    → (list : List Comm) × Contains lists list × Contains list e
-placed_place lists crossed e h =
-    let p = ready_place lists crossed e h in
-    let list = get_or lists p.0 [] in
-    (list, Contains-get_or lists p.0 [] p.1, Contains-from_slice_get list (made crossed list) e p.2)
-
-pub crossing_from_crossed : (lists : List (List Comm)) (order : List ℕ) → All (IsReached (events order)) lists
-    → EachIndex order (λ k. IsLeastReady lists (take k order) (slice_index order k)) → left lists order ≡ 0 → IsCrossing lists order
-crossing_from_crossed lists order reached greedy none = record {
-  both = All-from_get_or (HasBoth lists) order 0 (λ k l.
-      let ready = (greedy k l).ready in
-      record {
-        written = placed_place lists (take k order) (Write (get_or order k 0)) ready.write;
-        read = placed_place lists (take k order) (Read (get_or order k 0)) ready.read;
-      });
-  each = All-from_get_or (λ list. made_by list (events order) ≡ list) lists [] (λ c l.
-      let list = get_or lists c [] in
-      let at = All-get_or (IsReached (events order)) lists c [] l reached in
-      at ∙ take_all _ list (omega (arith, none, get_or-le-sum_by (λ xs. length xs - made order xs) lists c [] l)));
+pub crossing_from_crossed : (s : Sequences) (order : List ℕ) → EachIndex s.lists (IsReached s order)
+    → EachIndex order (λ k. IsLeastReady s (take k order) (slice_index order k)) → left s order ≡ 0 → IsCrossingOrder s order
+crossing_from_crossed s order reached greedy none = record {
+  known = All-from_get_or (λ m. m < length s.ends) order 0 (λ k l.
+      let there = some_there _ (slice_get s.ends (get_or order k 0)) (greedy k l).ready in
+      slice_get_within s.ends (get_or order k 0) there.0 there.1);
+  each = λ c l.
+      let n = length s.lists in
+      let at : get_or (below n) c 0 ≡ c = cell_at n c l in
+      let le = get_or-le-sum_by (λ c. length (rest s order c)) (below n) c 0 (omega (arith, length-range_with_len 0 n)) in
+      let short : length (rest s order c) ≡ 0 = omega (arith, le, none, ap (λ c. length (rest s order c)) at) in
+      let empty : rest s order c ≡ [] = drop_all 0 (rest s order c) (omega arith) in
+      sym (append-nil (made s order c)) ∙ ap (λ xs. made s order c ++ xs) (sym empty) ∙ reached c l;
 }

@@ -1,7 +1,13 @@
-pub mod Events
-pub mod Lists
+pub mod Counts
+pub mod Ends
+pub mod Examples
 pub mod Exact
+pub mod Finish
+pub mod Lists
 pub mod OneOrder
+pub mod OneWalk
+pub mod Seen
+pub mod Start
 pub mod Step
 pub mod Turn
-pub mod Table
+pub mod Walking

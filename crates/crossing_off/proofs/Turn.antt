@@ -1,82 +1,54 @@
 -- What the state of crossing-off keeps from turn to turn.
-use Rattle.std.proofs.Common.{◌≡◌, ℕ, ◌+◌, ◌-◌, ◌^◌, ◌<◌, ◌≤◌, ◌≢◌, List, [], ◌∷◌, ◌++◌, Option, None, Some, length, get_or, set, take, map, replicate, All, EachIndex, IsTrue, sum_by, slice_get, slice_index, sym, ◌∙◌, ap, subst, refl, ⊎_elim, arith}
+use Rattle.std.proofs.Common.{◌≡◌, ◌≢◌, ℕ, ◌<◌, ◌≤◌, ◌↔◌, List, [], ◌∷◌, ◌++◌, Option, None, Some, length, get_or, take, drop, EachIndex, IsTrue, sum_by, slice_get, slice_index, sym, ◌∙◌, ap, subst, ⊎_elim, arith}
 use Rattle.std.specs.Ordering.{nat_cmp}
 use Rattle.std.specs.BTreeSet.{BTreeSet, contains}
-use Rattle.std.specs.List.{list_any}
-use Rattle.std.specs.BTreeMap.{is_at}
-use Rattle.std.proofs.lemmas.Bool.{false≢true}
-use Rattle.std.specs.Global.{Vec}
-use Rattle.std.proofs.lemmas.List.{get_or-map, length-map, length-set, get_or_read, take_more}
-use Rattle.std.proofs.lemmas.List.Sums.{get_or-le-sum_by}
+use Rattle.std.proofs.lemmas.List.{get_or-set_same, get_or-set_other, length-set}
 use Rattle.std.proofs.lemmas.Option.{slice_get_within}
-use Rattle.std.proofs.lemmas.List.Elements.{All-get_or, All-contains}
-use Rattle.crossing_off.specs.declared.Comm.{Comm}
-use Rattle.crossing_off.specs.declared.ends.Ends.{Ends}
+use Rattle.comm_sequence.specs.Sequences.{Sequences, IsSequences}
+use Rattle.comm_sequence.specs.declared.comm.Comm.{Comm}
+use Rattle.comm_sequence.specs.declared.comm.Comm.TheVariants.{Write, Read}
 use Rattle.crossing_off.specs.declared.worklist.Crossing.{Crossing}
-use Rattle.crossing_off.specs.Crossing.{events, message_of, IsPlaced, IsCrossing}
-use Rattle.crossing_off.specs.Greedy.{made, front, fronts, left, IsCrossed, IsReady, IsLeastReady}
-use Rattle.crossing_off.specs.Ends.{items_of, HasEnds}
-use Rattle.crossing_off.specs.Worklist.{front_at, work_left, HasAdded, HasPopped, IsAllTried, IsReached, IsUnderWay, IsComplete, IsPopped, StandFirst}
-use Rattle.crossing_off.proofs.Lists.{Contains-from_slice_get, sum_by_agree, sum_by-map}
-use Rattle.crossing_off.proofs.Exact.{nothing_left, crossing_from_crossed}
-use Rattle.crossing_off.proofs.Step.{HasCrossed, has_crossed, IsFrontOf, ready_after, ready_first, first_from_ready, greedy_push}
+use Rattle.crossing_off.specs.Greedy.{front, IsReady, IsLeastReady}
+use Rattle.crossing_off.specs.Worklist.{front_at, moved_on, work_left, HasAdded, HasAdvanced, HasPopped, IsAllTried, IsUnderWay, IsComplete, IsPopped}
+use Rattle.crossing_off.proofs.Ends.{HasEnds, has_ends_at, front_known}
+use Rattle.crossing_off.proofs.Lists.{at_some, some_and}
+use Rattle.crossing_off.proofs.Seen.{IsReached}
+use Rattle.crossing_off.proofs.Step.{rests_of, rest_at, rests_long, front_now, StandsFirst, rest_sender, rests_after, reached_after, IsFrontOf, ready_after, ready_first, moved_less, greedy_push}
 
-pub under_way_waiting : (lists : List (List Comm)) (old : Crossing) (waiting : BTreeSet ℕ) → IsUnderWay lists old
-    → ((m : ℕ) → IsTrue (contains nat_cmp waiting m) → m < length old.ends.items) → IsUnderWay lists (record old { waiting = waiting })
-under_way_waiting lists old waiting h below = record {
-  placed = h.placed;
-  places = h.places;
+-- other messages wait, and all else is the same
+under_way_waiting : (s : Sequences) (old : Crossing) (waiting : BTreeSet ℕ) → IsUnderWay s old
+    → ((m : ℕ) → IsTrue (contains nat_cmp waiting m) → m < length s.ends) → IsUnderWay s (record old { waiting = waiting })
+under_way_waiting s old waiting h below = record {
+  sound = h.sound;
+  rests = h.rests;
   reached = h.reached;
   greedy = h.greedy;
-  counted = h.counted;
-  ends = h.ends;
   below = below;
 }
 
-front_below : (lists : List (List Comm)) (count : ℕ) (places : List ℕ) (k : ℕ) (e : Comm) → IsPlaced lists count → k < length lists → front_at lists places k ≡ Some e → message_of e < count
-front_below lists count places k e placed l h =
-    let list = get_or lists k [] in
-    All-contains (λ x. message_of x < count) list e (All-get_or (All (λ x. message_of x < count)) lists k [] l placed.below)
-    (Contains-from_slice_get list (get_or places k 0) e h)
+-- the message of a front is one of the messages
+front_of_below : (s : Sequences) (order : List ℕ) (c m : ℕ) (o : Option Comm) → IsSequences s → c < length s.lists → front s order c ≡ o → IsFrontOf o m → m < length s.ends
+front_of_below s order c m None sound l e h = absurd h
+front_of_below s order c m (Some x) sound l e h = let P : ℕ → Type 0 = λ i. i < length s.ends in subst P h (front_known s order c x sound l e)
 
-front_of_below : (lists : List (List Comm)) (count : ℕ) (places : List ℕ) (k m : ℕ) (o : Option Comm) → IsPlaced lists count → k < length lists → front_at lists places k ≡ o → IsFrontOf o m → m < count
-front_of_below lists count places k m None placed l e h = absurd h
-front_of_below lists count places k m (Some x) placed l e h = let P : ℕ → Type 0 = λ i. i < count in subst P h (front_below lists count places k x placed l e)
+-- those that wait are messages, and so is the one that was added
+pub added_below : (s : Sequences) (order : List ℕ) (c : ℕ) (o : Option Comm) (old new : BTreeSet ℕ) → IsSequences s → c < length s.lists → front s order c ≡ o
+    → HasAdded o old new → ((m : ℕ) → IsTrue (contains nat_cmp old m) → m < length s.ends) → (m : ℕ) → IsTrue (contains nat_cmp new m) → m < length s.ends
+added_below s order c o old new sound l e h below m w =
+    ⊎_elim (below m) (λ f. front_of_below s order c m o sound l e f) (h.only m w)
 
-pub added_below : (lists : List (List Comm)) (count : ℕ) (places : List ℕ) (k : ℕ) (old new : BTreeSet ℕ) → IsPlaced lists count → k < length lists
-    → HasAdded (front_at lists places k) old new → ((m : ℕ) → IsTrue (contains nat_cmp old m) → m < count) → (m : ℕ) → IsTrue (contains nat_cmp new m) → m < count
-added_below lists count places k old new placed l h below m w =
-    ⊎_elim (below m) (λ f. front_of_below lists count places k m (front_at lists places k) placed l refl f) (h.only m w)
-
+-- the message that was added waits
 pub added_waits : (front : Option Comm) (old new : BTreeSet ℕ) (m : ℕ) → HasAdded front old new → IsFrontOf front m → IsTrue (contains nat_cmp new m)
 added_waits None old new m h f = absurd f
 added_waits (Some e) old new m h f = let P : ℕ → Type 0 = λ i. IsTrue (contains nat_cmp new i) in subst P f h.added
 
--- ---- at the start
-places_start : (lists : List (List Comm)) → replicate (length lists) 0 ≡ map (made []) lists
-places_start [] = refl
-places_start (x ∷ xs) = ap (λ ps. 0 ∷ ps) (places_start xs)
-
-pub under_way_start : (lists : List (List Comm)) (start : Crossing) → IsPlaced lists (length start.ends.items) → HasEnds lists start.ends.items → start.places.items ≡ replicate (length lists) 0
-    → start.waiting.keys ≡ [] → start.order.items ≡ [] → start.left ≡ sum_by length lists → IsUnderWay lists start
-under_way_start lists start placed ends places waiting order left_is = record {
-  placed = placed;
-  places = places ∙ places_start lists ∙ ap (λ ms. map (made ms) lists) (sym order);
-  reached = let P : List ℕ → Type 0 = λ ms. All (IsReached (events ms)) lists in
-      subst P (sym order) (λ k d l. refl);
-  greedy = λ k l. absurd (omega (arith, ap length order));
-  counted = left_is ∙ sum_by_agree length (λ list. length list - 0) lists [] (λ k l. omega arith) ∙ ap (left lists) (sym order);
-  ends = ends;
-  below = λ m w. let P : List ℕ → Type 0 = λ ks. IsTrue (list_any (is_at (nat_cmp m)) ks) in absurd (false≢true (subst P waiting w));
-}
-
 -- ---- a message is taken from those that wait
-pub popped : (lists : List (List Comm)) (old new : Crossing) (m : ℕ) → IsUnderWay lists old → IsComplete lists old → HasPopped old new m → IsUnderWay lists new × IsPopped lists new m
-popped lists old new m h complete p =
+pub popped : (s : Sequences) (old new : Crossing) (m : ℕ) → IsUnderWay s old → IsComplete s old → HasPopped old new m → IsUnderWay s new × IsPopped s new m
+popped s old new m h complete p =
     let w = new.waiting in
-    let P : Crossing → Type 0 = λ now. IsUnderWay lists now × IsPopped lists now m in
+    let P : Crossing → Type 0 = λ now. IsUnderWay s now × IsPopped s now m in
     subst P (sym p.kept) (
-      under_way_waiting lists old w h (λ q x. h.below q (p.only q x)),
+      under_way_waiting s old w h (λ q x. h.below q (p.only q x)),
       record {
         below = h.below m p.waited;
         least = λ other r. p.least other (complete other r);
@@ -85,120 +57,125 @@ popped lists old new m h complete p =
     )
 
 -- ---- none is left to try
-pub all_tried : (lists : List (List Comm)) (old new : Crossing) → IsUnderWay lists old → IsComplete lists old → IsAllTried old new
-    → IsUnderWay lists new × ((m : ℕ) → IsReady lists new.order.items m → ⊥)
-all_tried lists old new h complete t =
-    let P : Crossing → Type 0 = λ now. IsUnderWay lists now × ((m : ℕ) → IsReady lists now.order.items m → ⊥) in
+pub all_tried : (s : Sequences) (old new : Crossing) → IsUnderWay s old → IsComplete s old → IsAllTried old new
+    → IsUnderWay s new × ((m : ℕ) → IsReady s new.order.items m → ⊥)
+all_tried s old new h complete t =
+    let P : Crossing → Type 0 = λ now. IsUnderWay s now × ((m : ℕ) → IsReady s now.order.items m → ⊥) in
     subst P (sym t.kept)
-    (under_way_waiting lists old new.waiting h (λ m w. absurd (t.none_waits m w)), λ m r. t.none_waited m (complete m r))
+    (under_way_waiting s old new.waiting h (λ m w. absurd (t.none_waits m w)), λ m r. t.none_waited m (complete m r))
 
--- the first operation left in a list
-front_now : (lists : List (List Comm)) (places order : List ℕ) (cell : ℕ) → places ≡ map (made order) lists → cell < length lists → front_at lists places cell ≡ front order (get_or lists cell [])
-front_now lists places order cell p l =
-    ap (slice_get (get_or lists cell [])) (ap (λ xs. get_or xs cell 0) p ∙ get_or-map (made order) lists cell [] 0 l)
+-- ---- whether a message can be crossed
+abbrev pub stands_first : (s : Sequences) (order : List ℕ) (m : ℕ) (e : HasEnds s m) → IsReady s order m → StandsFirst s order m
+stands_first s order m e ready =
+    let r = at_some (λ (x : ℕ × ℕ). (front s order x.0 ≡ Some (Write m)) × (front s order x.1 ≡ Some (Read m))) (slice_get s.ends m) (e.sender, e.receiver) ready e.is in
+    record { ends = e; write = r.0; read = r.1 }
 
--- the fronts, one list more
-pub fronts_more : (lists : List (List Comm)) (places order : List ℕ) (cell : ℕ) (all : List (Option Comm)) (x : Option Comm) → places ≡ map (made order) lists → cell < length lists
-    → all ≡ take cell (fronts lists order) → x ≡ front_at lists places cell → all ++ x ∷ [] ≡ take (cell + 1) (fronts lists order)
-fronts_more lists places order cell all x p l e is =
-    let next = is ∙ front_now lists places order cell p l ∙ sym (get_or-map (front order) lists cell [] x l) in
-    ap (λ xs. xs ++ x ∷ []) e ∙ ap (λ y. take cell (fronts lists order) ++ y ∷ []) next ∙ sym (take_more (fronts lists order) cell x (omega (arith, length-map lists (front order))))
+-- a message can be crossed just where its operations stand first in what is left
+pub ready_by_fronts : (s : Sequences) (now : Crossing) (m : ℕ) (x : ℕ × ℕ) → IsUnderWay s now → slice_get s.ends m ≡ Some x
+    → ((front_at now.rests.items x.0 ≡ Some (Write m)) × (front_at now.rests.items x.1 ≡ Some (Read m))) ↔ IsReady s now.order.items m
+ready_by_fronts s now m x h is =
+    let e = has_ends_at s m x h.sound is in
+    let order = now.order.items in
+    let at = λ (c : ℕ) (l : c < length s.lists). ap (λ xs. front_at xs c) h.rests ∙ front_now s order c l in
+    let R : ℕ × ℕ → Type 0 = λ y. (front s order y.0 ≡ Some (Write m)) × (front s order y.1 ≡ Some (Read m)) in (
+      λ both. some_and R (slice_get s.ends m) x is (sym (at x.0 e.sender_in) ∙ both.0, sym (at x.1 e.receiver_in) ∙ both.1),
+      λ ready. let r = at_some R (slice_get s.ends m) x ready is in (at x.0 e.sender_in ∙ r.0, at x.1 e.receiver_in ∙ r.1),
+    )
 
--- a place within a list fits, and so does the next
-pub place_fits : (lists : List (Vec Comm)) (places : List ℕ) (cell : ℕ) (e : Comm) → sum_by (λ (list : Vec Comm). length list.items) lists < 2 ^ 32 → cell < length (items_of lists)
-    → front_at (items_of lists) places cell ≡ Some e → get_or places cell 0 + 1 < 2 ^ 32
-place_fits lists places cell e few l f =
-    let inside = slice_get_within (get_or (items_of lists) cell []) (get_or places cell 0) e f in
-    let whole = sum_by-map length (λ (list : Vec Comm). list.items) lists in
-    let part = get_or-le-sum_by length (items_of lists) cell [] l in
-    omega (arith, inside, whole, part, few)
-
--- ---- the answer
-pub answer_empty : (lists : List (List Comm)) (now : Crossing) → IsUnderWay lists now → ((m : ℕ) → IsReady lists now.order.items m → ⊥) → now.left ≡ 0
-    → IsCrossed lists now.order.items × IsCrossing lists now.order.items
-answer_empty lists now h stuck none =
-    (record { greedy = h.greedy; stuck = stuck }, crossing_from_crossed lists now.order.items h.reached h.greedy (sym h.counted ∙ none))
-
-pub answer_left : (lists : List (List Comm)) (now : Crossing) (all : List (Option Comm)) → IsUnderWay lists now → ((m : ℕ) → IsReady lists now.order.items m → ⊥) → now.left ≢ 0 → all ≡ fronts lists now.order.items
-    → ((order : List ℕ) → IsCrossing lists order → ⊥) × ((crossed : List ℕ) × IsCrossed lists crossed × (now.left ≡ left lists crossed) × (all ≡ fronts lists crossed))
-answer_left lists now all h stuck some e = (
-  λ order crossing. some (h.counted ∙ nothing_left lists (length now.ends.items) now.order.items order h.placed h.reached stuck crossing),
-  (now.order.items, record { greedy = h.greedy; stuck = stuck }, h.counted, e),
-)
+-- something is kept of the sender and of the receiver
+pub cells_there : (s : Sequences) (now : Crossing) (m : ℕ) (x : ℕ × ℕ) → IsUnderWay s now → slice_get s.ends m ≡ Some x
+    → (x.0 < length now.rests.items) × (x.1 < length now.rests.items)
+cells_there s now m x h is =
+    let e = has_ends_at s m x h.sound is in
+    let long = ap length h.rests ∙ rests_long s now.order.items in
+    (omega (arith, long, e.sender_in), omega (arith, long, e.receiver_in))
 
 -- ---- it cannot be crossed
-pub not_crossed : (lists : List (List Comm)) (now : Crossing) (m : ℕ) → IsUnderWay lists now → IsPopped lists now m
-    → ((writer reader : ℕ) → StandFirst lists now.places.items m writer reader → ⊥) → IsComplete lists now
-not_crossed lists now m h p none q ready =
+pub not_crossed : (s : Sequences) (now : Crossing) (m : ℕ) → IsPopped s now m → (IsReady s now.order.items m → ⊥) → IsComplete s now
+not_crossed s now m p none q ready =
     ⊎_elim
-    (λ e. let P : ℕ → Type 0 = λ i. IsReady lists now.order.items i in
-    let f = first_from_ready lists now.order.items now.places.items m h.places (subst P e ready) in
-    absurd (none f.0 f.1 f.2))
+    (λ e. let P : ℕ → Type 0 = λ i. IsReady s now.order.items i in absurd (none (subst P e ready)))
     (λ w. w)
     (p.others q ready)
 
 -- ---- it is crossed
-pub record IsInPlace (old : Crossing) (writer reader : ℕ) : Type 0 where
-  pub writer_in : writer < length old.places.items
-  pub reader_in : reader < length old.places.items
-  pub differ : reader ≢ writer
-  pub enough : 2 ≤ old.left
+some_first : (xs : List Comm) (e : Comm) → slice_get xs 0 ≡ Some e → 1 ≤ length xs
+some_first xs e h = let l = slice_get_within xs 0 e h in omega arith
 
-pub in_place : (lists : List (List Comm)) (old : Crossing) (m writer reader : ℕ) → IsUnderWay lists old → StandFirst lists old.places.items m writer reader → IsInPlace old writer reader
-in_place lists old m writer reader h first =
-    let c = has_crossed lists (length old.ends.items) old.order.items old.places.items m writer reader h.placed h.places h.reached first in
-    let size : length old.places.items ≡ length lists = ap length h.places ∙ length-map lists (made old.order.items) in
-    let lefts = c.left_after in
-    record {
-      writer_in = omega (arith, first.writer_in);
-      reader_in = omega (arith, first.reader_in);
-      differ = λ q. c.differ (sym q);
-      enough = omega (arith, h.counted);
-    }
+-- both lists have a first operation, the second also once the first list has moved on
+pub some_sender : (s : Sequences) (now : Crossing) (m : ℕ) → IsUnderWay s now → (f : StandsFirst s now.order.items m) → 1 ≤ length (get_or now.rests.items f.ends.sender [])
+some_sender s now m h f =
+    let at = ap (λ xs. get_or xs f.ends.sender []) h.rests ∙ rest_at s now.order.items f.ends.sender f.ends.sender_in in
+    omega (arith, ap length at, some_first _ (Write m) f.write)
 
--- what the two writes leave
-pub places_moved : (places : List ℕ) (writer reader x y : ℕ) → writer < length places → reader < length places → x ≡ get_or places writer x → y ≡ get_or (set places writer (x + 1)) reader y
-    → (let half = set places writer (get_or places writer 0 + 1) in set (set places writer (x + 1)) reader (y + 1) ≡ set half reader (get_or half reader 0 + 1))
-places_moved places writer reader x y w r xs ys =
-    let after = λ (k : ℕ). let half = set places writer (k + 1) in set half reader (get_or half reader 0 + 1) in
-    ap (λ k. set (set places writer (x + 1)) reader (k + 1)) (get_or_read (set places writer (x + 1)) reader y (omega (arith, length-set places writer (x + 1))) ys 0)
-    ∙ ap after (get_or_read places writer x w xs 0)
+-- the receiver has a first operation once the sender has moved on
+pub some_receiver : (s : Sequences) (now : Crossing) (m : ℕ) → IsUnderWay s now → (f : StandsFirst s now.order.items m)
+    → 1 ≤ length (get_or (moved_on now.rests.items f.ends.sender) f.ends.receiver [])
+some_receiver s now m h f =
+    let e = f.ends in
+    let old = now.rests.items in
+    let far : e.receiver ≢ e.sender = λ q. e.apart (sym q) in
+    let at = get_or-set_other old e.sender e.receiver (drop 1 (get_or old e.sender [])) [] far ∙ ap (λ xs. get_or xs e.receiver []) h.rests ∙ rest_at s now.order.items e.receiver e.receiver_in in
+    omega (arith, ap length at, some_first _ (Read m) f.read)
 
-pub crossed : (lists : List (List Comm)) (old now : Crossing) (m writer reader : ℕ) (middle : BTreeSet ℕ) → IsUnderWay lists old → IsPopped lists old m
-    → StandFirst lists old.places.items m writer reader → now.ends.items ≡ old.ends.items → now.order.items ≡ old.order.items ++ m ∷ []
-    → (let half = set old.places.items writer (get_or old.places.items writer 0 + 1) in now.places.items ≡ set half reader (get_or half reader 0 + 1))
-    → now.left ≡ old.left - 2 → HasAdded (front_at lists now.places.items writer) old.waiting middle → HasAdded (front_at lists now.places.items reader) middle now.waiting
-    → IsUnderWay lists now × IsComplete lists now × (work_left now ≤ work_left old)
-crossed lists old now m writer reader middle h p first ends order places left_is added_w added_r =
-    let count = length old.ends.items in
-    let c = has_crossed lists count old.order.items old.places.items m writer reader h.placed h.places h.reached first in
-    let Same : List ℕ → Type 0 = λ ps. HasCrossed lists old.order.items old.places.items ps m writer reader in
-    let c' : HasCrossed lists old.order.items old.places.items now.places.items m writer reader = subst Same (sym places) c in
-    let back = sym order in
-    let ready = ready_first lists old.order.items old.places.items m writer reader h.places first in
-    let AllReached : List ℕ → Type 0 = λ ms. All (IsReached (events ms)) lists in
-    let AllGreedy : List ℕ → Type 0 = λ ms. EachIndex ms (λ k. IsLeastReady lists (take k ms) (slice_index ms k)) in
-    let lefts = c'.left_after in
-    let fewer : left lists now.order.items + 2 ≡ old.left = omega (arith, lefts, h.counted, ap (left lists) order) in
-    let counts = ap length ends in
-    let AtCount : ℕ → Type 0 = λ n. IsPlaced lists n in (
+-- what is left at the sender once its list has moved on
+sender_moved : (s : Sequences) (now : Crossing) (m : ℕ) → IsUnderWay s now → (e : HasEnds s m)
+    → front_at (moved_on now.rests.items e.sender) e.sender ≡ front s (now.order.items ++ m ∷ []) e.sender
+sender_moved s now m h e =
+    let old = now.rests.items in
+    let long = ap length h.rests ∙ rests_long s now.order.items in
+    let at = ap (λ xs. get_or xs e.sender []) h.rests ∙ rest_at s now.order.items e.sender e.sender_in in
+    ap (λ xs. slice_get xs 0)
+    (get_or-set_same old e.sender (drop 1 (get_or old e.sender [])) [] (omega (arith, long, e.sender_in)) ∙ ap (drop 1) at ∙ sym (rest_sender s now.order.items m e))
+
+-- the two advances of a crossing
+pub record HasCrossed (old start middle new : Crossing) (m sender receiver : ℕ) : Type 0 where
+  pub rests : start.rests.items ≡ old.rests.items
+  pub waiting : start.waiting ≡ old.waiting
+  pub order : start.order.items ≡ old.order.items ++ m ∷ []
+  pub first : HasAdvanced start middle sender
+  pub second : HasAdvanced middle new receiver
+
+-- after a crossing the rule is under way, each message that can be crossed waits, and no more work is left
+pub crossed : (s : Sequences) (old start middle new : Crossing) (m : ℕ) → IsUnderWay s old → IsPopped s old m → (f : StandsFirst s old.order.items m)
+    → HasCrossed old start middle new m f.ends.sender f.ends.receiver → IsUnderWay s new × IsComplete s new × (work_left new ≤ work_left old)
+crossed s old start middle new m h p f x =
+    let e = f.ends in
+    let w = e.sender in
+    let r = e.receiver in
+    let before = old.order.items in
+    let order = before ++ m ∷ [] in
+    let order_is : new.order.items ≡ order = x.second.order ∙ x.first.order ∙ x.order in
+    let half : middle.rests.items ≡ moved_on old.rests.items w = x.first.rests ∙ ap (λ xs. moved_on xs w) x.rests in
+    let all : new.rests.items ≡ moved_on (moved_on old.rests.items w) r = x.second.rests ∙ ap (λ xs. moved_on xs r) half in
+    let rests : new.rests.items ≡ rests_of s order = all ∙ ap (λ xs. moved_on (moved_on xs w) r) h.rests ∙ rests_after s before m e in
+    let back = sym order_is in
+    let front_w : front s order w ≡ front_at middle.rests.items w = sym (ap (λ xs. front_at xs w) half ∙ sender_moved s old m h e) in
+    let front_r : front s order r ≡ front_at new.rests.items r = sym (ap (λ xs. front_at xs r) rests ∙ front_now s order r e.receiver_in) in
+    let Starts : BTreeSet ℕ → Type 0 = λ ws. HasAdded (front_at middle.rests.items w) ws middle.waiting in
+    let added_w : HasAdded (front_at middle.rests.items w) old.waiting middle.waiting = subst Starts x.waiting x.first.waiting in
+    let added_r = x.second.waiting in
+    let AllReached : List ℕ → Type 0 = λ ms. EachIndex s.lists (IsReached s ms) in
+    let AllGreedy : List ℕ → Type 0 = λ ms. EachIndex ms (λ k. IsLeastReady s (take k ms) (slice_index ms k)) in
+    let long = ap length h.rests ∙ rests_long s before in
+    let less_w = moved_less old.rests.items w (omega (arith, long, e.sender_in)) (some_sender s old m h f) in
+    let less_r = moved_less (moved_on old.rests.items w) r (omega (arith, long, e.receiver_in, length-set old.rests.items w (drop 1 (get_or old.rests.items w [])))) (some_receiver s old m h f) in (
       record {
-        placed = subst AtCount (sym counts) h.placed;
-        places = c'.places_after ∙ ap (λ ms. map (made ms) lists) back;
-        reached = subst AllReached back c'.reached_after;
-        greedy = subst AllGreedy back (greedy_push lists old.order.items m h.greedy (record { ready = ready; least = p.least }));
-        counted = omega arith;
-        ends = let P : List Ends → Type 0 = λ es. HasEnds lists es in subst P (sym ends) h.ends;
-        below = λ q w. let b = added_below lists count now.places.items reader middle now.waiting h.placed first.reader_in added_r
-            (added_below lists count now.places.items writer old.waiting middle h.placed first.writer_in added_w h.below) q w in omega arith;
+        sound = h.sound;
+        rests = rests ∙ ap (rests_of s) back;
+        reached = subst AllReached back (reached_after s before m f h.reached);
+        greedy = subst AllGreedy back (greedy_push s before m h.greedy (record { ready = ready_first s before m f; least = p.least }));
+        below = added_below s order r (front_at new.rests.items r) middle.waiting new.waiting h.sound e.receiver_in front_r added_r
+            (added_below s order w (front_at middle.rests.items w) old.waiting middle.waiting h.sound e.sender_in front_w added_w h.below);
       },
-      λ q r. let IsReadyAt : List ℕ → Type 0 = λ ms. IsReady lists ms q in
+      λ q ready. let IsReadyAt : List ℕ → Type 0 = λ ms. IsReady s ms q in
+          let Of : Option Comm → Type 0 = λ o. IsFrontOf o q in
           ⊎_elim
-          (λ w. added_r.kept q (added_waits (front_at lists now.places.items writer) old.waiting middle q added_w w))
+          (λ a. added_r.kept q (added_waits (front_at middle.rests.items w) old.waiting middle.waiting q added_w (subst Of front_w a)))
           (λ rest. ⊎_elim
-          (λ f. added_waits (front_at lists now.places.items reader) middle now.waiting q added_r f)
-          (λ both. ⊎_elim (λ e. absurd (both.1 e)) (λ w. added_r.kept q (added_w.kept q w)) (p.others q both.0))
+          (λ b. added_waits (front_at new.rests.items r) middle.waiting new.waiting q added_r (subst Of front_r b))
+          (λ both. ⊎_elim (λ same. absurd (both.1 same)) (λ waits. added_r.kept q (added_w.kept q waits)) (p.others q both.0))
           rest)
-          (ready_after lists old.order.items old.places.items now.places.items m writer reader q c' h.places (subst IsReadyAt order r)),
-      omega (arith, added_w.len, added_r.len),
+          (ready_after s before m q e (subst IsReadyAt order_is ready)),
+      omega (arith, added_w.len, added_r.len, less_w, less_r, ap (sum_by length) all),
     )

@@ -1,5 +1,5 @@
-pub mod Crossing
-pub mod Greedy
 pub mod Answer
-pub mod Ends
+pub mod Greedy
+pub mod Rests
+pub mod Walk
 pub mod Worklist

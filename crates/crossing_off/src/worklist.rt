@@ -1,134 +1,118 @@
-//! The state of crossing-off, and one turn of it.
-ghost use Rattle.std.specs.Prelude.{◌≡◌, ℕ, ◌+◌, ◌^◌, ◌<◌, ◌≤◌, IsTrue, ◌↔◌, length, sum_by, IfOk, OnOk, MatchOption};
-ghost use Rattle.crossing_off.specs.Crossing.{IsPlaced};
-ghost use Rattle.crossing_off.specs.Greedy.{IsReady};
+//! Crossing-off by a worklist: the messages that may have come to the front of their lists wait to be tried.
+ghost use Rattle.std.specs.Prelude.{◌≡◌, ◌<◌, ◌≤◌, [], length, slice_index_or, Some, IsTrue, ◌↔◌, IfOk, OnOk, MatchOption, ℕ};
 ghost use Rattle.crossing_off.specs.Answer.{IsAnswer};
-ghost use Rattle.crossing_off.specs.Ends.{items_of, HasEnds};
-ghost use Rattle.crossing_off.specs.Worklist.{front_at, work_left, IsUnderWay, IsComplete, IsPopped, HasPopped, IsAllTried, HasAdded, StandFirst};
+ghost use Rattle.crossing_off.specs.Greedy.{IsReady};
+ghost use Rattle.crossing_off.specs.Worklist.{front_at, work_left, HasAdded, HasAdvanced, HasPopped, IsAllTried, IsComplete, IsPopped, IsUnderWay};
 
-use crate::ends::{Ends, ends_of};
-use crate::{Comm, Crossed, Residue};
+use crate::rests::Rest;
+use crate::{Crossed, Residue};
+use comm_sequence::{Comm, Seqs};
 use std::alloc::Global;
 use std::collections::BTreeSet;
 use sys_base::Memory;
 
-/// How far crossing-off has come: how many operations of each list are made, the messages whose fronts are to be tried,
-/// and those that are crossed, in order.
+/// How far crossing-off has come: what is left of each list, the messages that are to be tried, and those that are crossed,
+/// in order.
 #[derive(Drop)]
-pub(crate) struct Crossing {
-    ends: Vec<Ends>,
-    places: Vec<u32>,
+pub(crate) struct Crossing<'a> {
+    rests: Vec<Rest<'a>>,
     waiting: BTreeSet<u16>,
     order: Vec<u16>,
-    left: u32,
 }
 
-impl Crossing {
+impl<'a> Crossing<'a> {
     /// Nothing is crossed, and the message at the front of each list waits.
-    pub(crate) fn new(alloc: Global, lists: &[Vec<Comm>], count: u16) -> Result<Crossing, Memory>
-        requires placed { IsPlaced (items_of lists.now) count }
-        requires few { sum_by (λ list. length list.items) lists.now < 2 ^ 32 }
-        ensures under_way { IfOk result (IsUnderWay (items_of lists.now)) }
-        ensures complete { IfOk result (IsComplete (items_of lists.now)) }
+    fn new(alloc: Global, seqs: &'a Seqs) -> Result<Crossing<'a>, Memory>
+        ensures under_way { IfOk result (IsUnderWay seqs.now) }
+        ensures complete { IfOk result (IsComplete seqs.now) }
     {
         let mut crossing = Crossing {
-            ends: ends_of(alloc, lists, count)?,
-            places: vec![in alloc; 0; lists.len()]?,
+            rests: Vec::new(alloc),
             waiting: BTreeSet::new(alloc),
             order: Vec::new(alloc),
-            left: total(lists),
         };
-        for cell in 0..lists.len() {
-            let front = crossing.front(lists, cell);
-            wait_for(&mut crossing.waiting, front)?;
+        for cell in 0..seqs.cells() {
+            let rest = Rest::new(seqs.cursor(cell));
+            wait_for(&mut crossing.waiting, rest.front())?;
+            crossing.rests.push(rest)?;
         }
         Ok(crossing)
     }
 
     /// The least message that waits, which then no longer waits.
-    pub(crate) fn pop(&mut self) -> Option<u16>
+    fn pop(&mut self) -> Option<u16>
         ensures { MatchOption result (IsAllTried self.old self.new) (HasPopped self.old self.new) }
     {
         self.waiting.pop_first()
     }
 
     /// Crosses the message off, if both its operations stand first in what is left of their lists.
-    pub(crate) fn try_message(&mut self, lists: &[Vec<Comm>], message: u16) -> Result<(), Memory>
-        requires few { sum_by (λ list. length list.items) lists.now < 2 ^ 32 }
-        requires under_way { IsUnderWay (items_of lists.now) self.old }
-        requires popped { IsPopped (items_of lists.now) self.old message }
-        ensures under_way { OnOk result (IsUnderWay (items_of lists.now) self.new) }
-        ensures complete { OnOk result (IsComplete (items_of lists.now) self.new) }
+    fn try_message(&mut self, seqs: &Seqs, message: u16) -> Result<(), Memory>
+        requires under_way { IsUnderWay seqs.now self.old }
+        requires popped { IsPopped seqs.now self.old message }
+        ensures under_way { OnOk result (IsUnderWay seqs.now self.new) }
+        ensures complete { OnOk result (IsComplete seqs.now self.new) }
         ensures work { OnOk result (work_left self.new ≤ work_left self.old) }
     {
-        let Some((writer, reader)) = self.cells_of(lists, message) else {
+        if !self.is_ready(seqs, message) {
             return Ok(());
-        };
+        }
+        let (sender, receiver) = seqs.ends(message);
         self.order.push(message)?;
-        self.places[writer] += 1;
-        self.places[reader] += 1;
-        self.left -= 2;
-        let front = self.front(lists, writer);
-        wait_for(&mut self.waiting, front)?;
-        let front = self.front(lists, reader);
+        self.advance(sender)?;
+        self.advance(receiver)
+    }
+
+    /// Whether the message can be crossed next.
+    fn is_ready(&self, seqs: &Seqs, message: u16) -> bool
+        requires under_way { IsUnderWay seqs.now self.now }
+        requires below { message < length seqs.now.ends }
+        ensures { IsTrue result ↔ IsReady seqs.now self.now.order.items message }
+    {
+        let (sender, receiver) = seqs.ends(message);
+        self.is_first(sender, Comm::Write(message)) && self.is_first(receiver, Comm::Read(message))
+    }
+
+    /// Whether the operation stands first in what is left of the cell's list.
+    fn is_first(&self, cell: u16, comm: Comm) -> bool
+        requires { cell < length self.now.rests.items }
+        ensures { IsTrue result ↔ (front_at self.now.rests.items cell ≡ Some comm) }
+    {
+        self.rests[usize::from(cell)].front() == Some(comm)
+    }
+
+    /// Passes the first operation of a cell's list, and lets the message of the next one wait.
+    fn advance(&mut self, cell: u16) -> Result<(), Memory>
+        requires cell { cell < length self.old.rests.items }
+        requires some { 1 ≤ length (slice_index_or self.old.rests.items cell []) }
+        ensures { OnOk result (HasAdvanced self.old self.new cell) }
+    {
+        let rest = &mut self.rests[usize::from(cell)];
+        rest.advance();
+        let front = rest.front();
         wait_for(&mut self.waiting, front)
     }
 
-    /// The lists in which the message is written and read, if both operations stand first in what is left of them.
-    fn cells_of(&self, lists: &[Vec<Comm>], message: u16) -> Option<(usize, usize)>
-        requires below { message < length self.now.ends.items }
-        requires places { length self.now.places.items ≡ length lists.now }
-        requires ends { HasEnds (items_of lists.now) self.now.ends.items }
-        ensures { MatchOption result
-            ((writer reader : ℕ) → StandFirst (items_of lists.now) self.now.places.items message writer reader → ⊥)
-            (λ cells. StandFirst (items_of lists.now) self.now.places.items message cells.0 cells.1) }
-    {
-        let Ends { writer, reader } = self.ends[usize::from(message)];
-        let (writer, reader) = (writer?, reader?);
-        let is_ready = self.is_first(lists, writer, Comm::Write(message))
-            && self.is_first(lists, reader, Comm::Read(message));
-        is_ready.then_some((writer, reader))
-    }
-
-    /// Whether the operation stands first in what is left of the list.
-    fn is_first(&self, lists: &[Vec<Comm>], cell: usize, comm: Comm) -> bool
-        requires cell { cell < length lists.now }
-        requires places { length self.now.places.items ≡ length lists.now }
-        ensures { IsTrue result ↔ (front_at (items_of lists.now) self.now.places.items cell ≡ Some comm) }
-    {
-        self.front(lists, cell) == Some(comm)
-    }
-
-    /// The first operation that is left in the list.
-    fn front(&self, lists: &[Vec<Comm>], cell: usize) -> Option<Comm>
-        requires cell { cell < length lists.now }
-        requires places { length self.now.places.items ≡ length lists.now }
-        ensures { result ≡ front_at (items_of lists.now) self.now.places.items cell }
-    {
-        lists[cell].get(self.places[cell] as usize).copied()
-    }
-
     /// The answer, once no message can be crossed any more.
-    pub(crate) fn finish(self, alloc: Global, lists: &[Vec<Comm>]) -> Result<Crossed, Memory>
-        requires under_way { IsUnderWay (items_of lists.now) self }
-        requires stuck { (m : ℕ) → IsReady (items_of lists.now) self.order.items m → ⊥ }
-        ensures { IfOk result (IsAnswer (items_of lists.now)) }
+    fn finish(self, alloc: Global, seqs: &Seqs) -> Result<Crossed, Memory>
+        requires under_way { IsUnderWay seqs.now self }
+        requires stuck { (m : ℕ) → IsReady seqs.now self.order.items m → ⊥ }
+        ensures { IfOk result (IsAnswer seqs.now) }
     {
-        if self.left == 0 {
+        let mut left = 0;
+        let mut fronts = Vec::new(alloc);
+        for rest in self.rests {
+            fronts.push(rest.front())?;
+            left += rest.count();
+        }
+        if left == 0 {
             return Ok(Crossed::Empty(self.order));
         }
-        let mut fronts = Vec::new(alloc);
-        for cell in 0..lists.len() {
-            fronts.push(self.front(lists, cell))?;
-        }
-        Ok(Crossed::Left(Residue {
-            left: self.left,
-            fronts,
-        }))
+        Ok(Crossed::Left(Residue { left, fronts }))
     }
 }
 
-/// Lets the message that stands first in what is left of a list wait.
+/// Lets the message of an operation wait, if there is one.
 fn wait_for(waiting: &mut BTreeSet<u16>, front: Option<Comm>) -> Result<(), Memory>
     ensures { OnOk result (HasAdded front waiting.old waiting.new) }
 {
@@ -138,14 +122,18 @@ fn wait_for(waiting: &mut BTreeSet<u16>, front: Option<Comm>) -> Result<(), Memo
     Ok(())
 }
 
-/// How many operations the lists have.
-fn total(lists: &[Vec<Comm>]) -> u32
-    requires { sum_by (λ list. length list.items) lists.now < 2 ^ 32 }
-    ensures { result ≡ sum_by (λ list. length list.items) lists.now }
+/// Crosses off the least message that can be crossed, again and again.
+///
+/// `Empty` has the crossed messages in order, which are a crossing order; `Left` comes exactly where no crossing order
+/// of any kind exists. The only error is want of memory.
+///
+/// The time is linear in the number of operations, but for a logarithm of the number of messages.
+pub fn cross(alloc: Global, seqs: &Seqs) -> Result<Crossed, Memory>
+    ensures { IfOk result (IsAnswer seqs.now) }
 {
-    let mut total = 0;
-    for list in lists {
-        total += list.len() as u32;
+    let mut crossing = Crossing::new(alloc, seqs)?;
+    while let Some(message) = crossing.pop() {
+        crossing.try_message(seqs, message)?;
     }
-    total
+    crossing.finish(alloc, seqs)
 }

@@ -6,7 +6,6 @@ use Rattle.refusals.specs.declared.refusal.Refusal.TheVariants as R
 
 -- the family of a refusal
 unfoldable pub family_of : Refusal → Family
-family_of R.NotStraight = F.Source
 family_of (R.BadByte _) = F.Source
 family_of (R.Unexpected _ _) = F.Source
 family_of (R.BigNumber _) = F.Source

@@ -83,7 +83,6 @@ is_kind_known _ = true
 
 -- the line of a refusal, without its newline
 unfoldable pub text_of : Refusal → List ℕ
-text_of R.NotStraight = codes "E00 not a straight source"
 text_of (R.BadByte at) = codes "E01 byte at " ++ decimal at ++ codes " is not part of the language"
 text_of (R.Unexpected line column) =
     codes "E02 line " ++ decimal line ++ codes " column " ++ decimal column ++ codes ": not expected here"

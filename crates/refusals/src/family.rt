@@ -3,7 +3,7 @@ ghost use Rattle.refusals.specs.Families.{family_of};
 
 use crate::refusal::Refusal;
 
-/// What a refusal is about: the text of the source (E00 to E07), a declaration (E10 to E13), a statement (E14 to E17),
+/// What a refusal is about: the text of the source (E01 to E07), a declaration (E10 to E13), a statement (E14 to E17),
 /// a route (E18 to E20), or the program as a whole (E30 to E61).
 #[derive(Clone, Copy, Debug, PartialEq, Eq)]
 pub enum Family {
@@ -20,8 +20,7 @@ pub fn family_of(refusal: &Refusal) -> Family
     ensures { result ≡ family_of refusal.now }
 {
     match refusal {
-        Refusal::NotStraight
-        | Refusal::BadByte { .. }
+        Refusal::BadByte { .. }
         | Refusal::Unexpected { .. }
         | Refusal::BigNumber { .. }
         | Refusal::LongName { .. }

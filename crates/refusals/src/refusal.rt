@@ -4,8 +4,6 @@ use sys_base::{Limit, Name};
 /// Why a source is refused. Each `line` is that of the token, the declaration or the statement at fault, from 1.
 #[derive(Debug, Drop)]
 pub enum Refusal {
-    /// E00: the source is outside the part of the language that is judged so far.
-    NotStraight,
     /// E01: a byte that begins no token and separates none, at this place in the file, from 0.
     BadByte {
         at: u32,

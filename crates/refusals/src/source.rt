@@ -1,4 +1,4 @@
-//! The lines of the refusals E00 to E07.
+//! The lines of the refusals E01 to E07.
 ghost use Rattle.std.specs.Prelude.{◌≡◌, ◌++◌, OnOk};
 ghost use Rattle.refusals.specs.Families.{family_of};
 ghost use Rattle.refusals.specs.Texts.{text_of};
@@ -16,7 +16,6 @@ pub fn write_source(out: &mut Vec<u8>, refusal: &Refusal) -> Result<(), Memory>
     ensures { OnOk result (out.new.items ≡ out.old.items ++ text_of refusal.now) }
 {
     match refusal {
-        Refusal::NotStraight => write_words(out, b"E00 not a straight source"),
         Refusal::BadByte { at } => write_bad_byte(out, *at),
         Refusal::Unexpected { line, column } => write_unexpected(out, *line, *column),
         Refusal::BigNumber { line } => write_on_line(

@@ -26,7 +26,6 @@ fn expect<R: Abort + AllocGlobal>(rt: &R, refusal: Refusal, line: &str) -> Resul
 
 #[test]
 fn the_text_of_a_source(rt: HostRuntime) -> Result<(), Fail> {
-    expect(&rt, Refusal::NotStraight, "E00 not a straight source")?;
     let at = 40;
     expect(
         &rt,

@@ -1,11 +1,11 @@
 -- A command reads no file but those that it names.
 use Rattle.std.proofs.Common.{ℕ, List, Option, Contains, refl, sym, subst, inl, inr, arith}
-use Rattle.systole_top.specs.Commands.{judgement_of, judged, accepted, passes, check_reply, tree_of, files_of}
-use Rattle.systole_top.specs.Shape.{Shape, Check}
+use Rattle.systole_top.specs.Commands.{judgement_of, judged, accepted, passes, accepted_reply, explain_reply, tree_of, files_of}
+use Rattle.systole_top.specs.Shape.{Shape, Check, Explain}
 use Rattle.systole_top.specs.Tree.{Tree, Gives, Says, Reads, Picks, then_, Tries, Asks}
-use Rattle.systole_top.specs.declared.check.TheConstants.{SOURCE_BYTES}
 use Rattle.systole_top.specs.declared.judgement.Judgement.{Judgement}
 use Rattle.systole_top.specs.declared.judgement.Judgement.TheVariants.{Accepted, Refused}
+use Rattle.systole_top.specs.declared.judgement.TheConstants.{SOURCE_BYTES}
 
 -- what is read is asked for
 pub asks_tries : {A : Type 0} (held : List ℕ → Option (List ℕ)) (These : List ℕ → Type 0) (t : Tree A) (wanted : List ℕ) → Asks These t → Tries held t wanted → These wanted
@@ -43,4 +43,7 @@ asks_accepted These file named = asks_then These (judged file) passes (asks_judg
 pub asks : (s : Shape) → Asks (Contains (files_of s)) (tree_of s)
 asks (Check file) =
     let These = Contains (files_of (Check file)) in
-    asks_then These (accepted file) (λ _. Gives check_reply) (asks_accepted These file (0, omega arith, refl)) (λ x. tt)
+    asks_then These (accepted file) (λ _. Gives accepted_reply) (asks_accepted These file (0, omega arith, refl)) (λ x. tt)
+asks (Explain file) =
+    let These = Contains (files_of (Explain file)) in
+    asks_then These (judged file) (λ judgement. Gives (explain_reply judgement)) (asks_judged These file (0, omega arith, refl)) (λ x. tt)

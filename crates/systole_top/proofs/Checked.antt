@@ -1,24 +1,25 @@
--- What the answer to `check F` says of a told file.
-use Rattle.std.proofs.Common.{◌≡◌, ◌⊎◌, ◌<◌, ℕ, List, [], ◌∷◌, Option, None, Some, is_some, IsSome, IsSomeAnd, IfSome, length, refl, sym, ap, ◌∙◌, subst, inl, inr, arith}
+-- What the answers to `check F` and `explain F` say of a told file.
+use Rattle.std.proofs.Common.{◌≡◌, ◌⊎◌, ◌<◌, ℕ, List, [], ◌∷◌, Option, None, Some, is_some, IsSome, IsSomeAnd, IfSome, Contains, length, refl, sym, ap, ◌∙◌, subst, inl, inr, arith}
 use Rattle.std.specs.Io.KnownBytes.{Appends}
 use Rattle.std.proofs.lemmas.Bool.{cases_lt}
 use Rattle.std.proofs.lemmas.Bool.Decides.{nat_tests}
 use Rattle.std.proofs.lemmas.List.Elements.{All-nil, All-cons, All-contains}
 use Rattle.accept.specs.FirstRefusal.{Accepts, FirstRefusal}
+use Rattle.refusals.specs.Explanations.{explanation}
 use Rattle.refusals.specs.declared.refusal.Refusal.{Refusal}
 use Rattle.refusals.specs.declared.refusal.Refusal.TheVariants.{LongSource}
 use Rattle.systole_top.specs.Causes.{IsAnswer, Names, Answers, Judges, IsOrFault, IsChecked, Checks}
-use Rattle.systole_top.specs.Commands.{tree_of, passes, check_reply, refused_reply}
+use Rattle.systole_top.specs.Commands.{tree_of, passes, accepted_reply, explain_reply}
 use Rattle.systole_top.specs.Judgement.{IsJudged}
 use Rattle.systole_top.specs.Reply.{Reply, Outcome, outcome_of}
 use Rattle.systole_top.specs.Texts.{accepted_line, refusal_line}
-use Rattle.systole_top.specs.Shape.{Shape, Check}
+use Rattle.systole_top.specs.Shape.{Shape, Check, Explain}
 use Rattle.systole_top.specs.Sides.{Stream, Reaches}
-use Rattle.systole_top.specs.Tree.{Gives, within, Replies, then_}
+use Rattle.systole_top.specs.Tree.{Tree, Gives, within, Replies, then_}
 use Rattle.systole_top.specs.declared.answer.Verdict.TheVariants as Verdict
-use Rattle.systole_top.specs.declared.check.TheConstants.{SOURCE_BYTES}
 use Rattle.systole_top.specs.declared.judgement.Judgement.{Judgement}
 use Rattle.systole_top.specs.declared.judgement.Judgement.TheVariants.{Accepted, Refused}
+use Rattle.systole_top.specs.declared.judgement.TheConstants.{SOURCE_BYTES}
 use Rattle.systole_top.specs.declared.status.Status.{Status}
 use Rattle.systole_top.proofs.Reading.{within-whole}
 
@@ -53,110 +54,157 @@ judged_within text j is =
 
 -- ---- the answer
 
--- what is said of a judgement
-abbrev reply_to : Judgement → Reply
-reply_to Accepted = check_reply
-reply_to (Refused r) = refused_reply r
+-- what is said of a judgement, with these bytes on each side for a refusal
+abbrev reply_to : (on_out on_err : Refusal → List ℕ) → Judgement → Reply
+reply_to on_out on_err Accepted = accepted_reply
+reply_to on_out on_err (Refused r) = record { verdict = Verdict.Refused; out = on_out r; err = on_err r }
 
--- The text has a judgement of which the reply comes.
-abbrev Replied : (List ℕ → Option (List ℕ)) → Reply → List ℕ → Type 0
-Replied held r text = (j : Judgement) × IsJudged (within SOURCE_BYTES text) j × Replies held (then_ (passes j) (λ _. Gives check_reply)) r
+-- The text has a judgement, and the reply comes of what follows on it.
+abbrev Replied : (List ℕ → Option (List ℕ)) → (Judgement → Tree Reply) → Reply → List ℕ → Type 0
+Replied held tail r text = (j : Judgement) × IsJudged (within SOURCE_BYTES text) j × Replies held (tail j) r
 
-reply_is : (held : List ℕ → Option (List ℕ)) (j : Judgement) (r : Reply) → Replies held (then_ (passes j) (λ _. Gives check_reply)) r → r ≡ reply_to j
-unfolding then_
-reply_is held Accepted r is = sym is
-reply_is held (Refused q) r is = sym is
-
-reply_there : (held : List ℕ → Option (List ℕ)) (j : Judgement) → Replies held (then_ (passes j) (λ _. Gives check_reply)) (reply_to j)
-unfolding then_
-reply_there held Accepted = refl
-reply_there held (Refused q) = refl
+-- Over a told file the command names that file alone, and its replies are those to the judgements on the text.
+record RepliesTo (held : List ℕ → Option (List ℕ)) (s : Shape) (text : List ℕ) (on_out on_err : Refusal → List ℕ) : Type 0 where
+  named : (name : List ℕ) → Names (Some s) name → IsSome (held name)
+  judged : (r : Reply) → Replies held (tree_of s) r → (j : Judgement) × IsJudged (Some text) j × (r ≡ reply_to on_out on_err j)
+  replies : (j : Judgement) → IsJudged (Some text) j → Replies held (tree_of s) (reply_to on_out on_err j)
 
 module _ (held : List ℕ → Option (List ℕ)) (file text : List ℕ) (told : held file ≡ Some text) where
-  -- the reply over told files is that of a judgement on the text
-  replies_judged : (r : Reply) → Replies held (tree_of (Check file)) r → (j : Judgement) × IsJudged (Some text) j × (r ≡ reply_to j)
-  unfolding then_
-  replies_judged r replies =
-      let found : Replied held r text = subst (λ o. IsSomeAnd o (Replied held r)) told replies in
-      (found.0, judged_text text found.0 found.1, reply_is held found.0 r found.2)
-
-  -- and each judgement on the text has its reply
-  judged_replies : (j : Judgement) → IsJudged (Some text) j → Replies held (tree_of (Check file)) (reply_to j)
-  unfolding then_
-  judged_replies j is =
-      subst (λ o. IsSomeAnd o (Replied held (reply_to j))) (sym told) (j, judged_within text j is, reply_there held j)
-
   -- the one file that is named is told
-  named_told : (name : List ℕ) → Names (Some (Check file)) name → IsSome (held name)
+  named_told : (name : List ℕ) → Contains (file ∷ []) name → IsSome (held name)
   named_told name named =
       let These : List ℕ → Type 0 = λ n. IsSome (held n) in
       All-contains These (file ∷ []) name (All-cons These file [] (ap is_some told) (All-nil These)) named
 
-  module _ (before now : List ℕ → ℕ) (out err : Stream) (status : Status) where
-    -- ---- what a verdict says of the text
+  module _ (tail : Judgement → Tree Reply) (on_out on_err : Refusal → List ℕ) where
+    -- the reply over told files is that of a judgement on the text
+    tail_judged : ((j : Judgement) (r : Reply) → Replies held (tail j) r → r ≡ reply_to on_out on_err j)
+        → (r : Reply) → IsSomeAnd (held file) (Replied held tail r) → (j : Judgement) × IsJudged (Some text) j × (r ≡ reply_to on_out on_err j)
+    tail_judged is r replies =
+        let found : Replied held tail r text = subst (λ o. IsSomeAnd o (Replied held tail r)) told replies in
+        (found.0, judged_text text found.0 found.1, is found.0 r found.2)
 
-    done_of : (j : Judgement) → IsJudged (Some text) j → (a : Outcome) → a ≡ outcome_of (reply_to j) → a.status ≡ Status.Done
-        → Appends out.told_before out.told_now a.out → Appends err.told_before err.told_now a.err
-        → Accepts text × Appends out.told_before out.told_now accepted_line × Appends err.told_before err.told_now []
-    done_of Accepted is a same done on_out on_err = (
-      is,
-      subst (λ o. Appends out.told_before out.told_now o.out) same on_out,
-      subst (λ o. Appends err.told_before err.told_now o.err) same on_err,
-    )
-    done_of (Refused r) is a same done on_out on_err =
-        absurd (let e : Status.Refused ≡ Status.Done = sym (ap (λ o. o.status) same) ∙ done in cc)
+    -- and each judgement on the text has its reply
+    tail_replies : ((j : Judgement) → Replies held (tail j) (reply_to on_out on_err j))
+        → (j : Judgement) → IsJudged (Some text) j → IsSomeAnd (held file) (Replied held tail (reply_to on_out on_err j))
+    tail_replies there j is =
+        subst (λ o. IsSomeAnd o (Replied held tail (reply_to on_out on_err j))) (sym told) (j, judged_within text j is, there j)
 
-    refused_of : (j : Judgement) → IsJudged (Some text) j → (a : Outcome) → a ≡ outcome_of (reply_to j) → a.status ≡ Status.Refused
-        → Appends out.told_before out.told_now a.out → Appends err.told_before err.told_now a.err
-        → (r : Refusal) × FirstRefusal text r × Appends out.told_before out.told_now [] × Appends err.told_before err.told_now (refusal_line r)
-    refused_of Accepted is a same refused on_out on_err =
-        absurd (let e : Status.Done ≡ Status.Refused = sym (ap (λ o. o.status) same) ∙ refused in cc)
-    refused_of (Refused r) is a same refused on_out on_err = (
-      r,
-      is,
-      subst (λ o. Appends out.told_before out.told_now o.out) same on_out,
-      subst (λ o. Appends err.told_before err.told_now o.err) same on_err,
-    )
+-- ---- what follows on a judgement
 
-    -- ---- what the text says of the status
+module _ (held : List ℕ → Option (List ℕ)) where
+  -- `check` ends at a refusal
+  check_is : (j : Judgement) (r : Reply) → Replies held (then_ (passes j) (λ _. Gives accepted_reply)) r → r ≡ reply_to (λ q. []) refusal_line j
+  unfolding then_
+  check_is Accepted r is = sym is
+  check_is (Refused q) r is = sym is
 
-    reached : (t : Outcome) → Reaches out err t status → (status ≡ t.status) ⊎ (status ≡ Status.WriteFault) ⊎ (status ≡ Status.Memory)
-    reached t reaches =
-        elim reaches [
-          | inl put ↦ inl put.0
-          | inr other ↦ elim other [ inl failed ↦ inr (inl failed.0) | inr none ↦ inr (inr none.0) ]
+  check_there : (j : Judgement) → Replies held (then_ (passes j) (λ _. Gives accepted_reply)) (reply_to (λ q. []) refusal_line j)
+  unfolding then_
+  check_there Accepted = refl
+  check_there (Refused q) = refl
+
+  -- `explain` answers both
+  explain_is : (j : Judgement) (r : Reply) → Replies held (Gives (explain_reply j)) r → r ≡ reply_to explanation (λ q. []) j
+  explain_is Accepted r is = sym is
+  explain_is (Refused q) r is = sym is
+
+  explain_there : (j : Judgement) → Replies held (Gives (explain_reply j)) (reply_to explanation (λ q. []) j)
+  explain_there Accepted = refl
+  explain_there (Refused q) = refl
+
+  -- what `check F` says
+  check_replies : (file text : List ℕ) → held file ≡ Some text → RepliesTo held (Check file) text (λ q. []) refusal_line
+  unfolding then_
+  check_replies file text told = record {
+    named = named_told held file text told;
+    judged = tail_judged held file text told (λ j. then_ (passes j) (λ _. Gives accepted_reply)) (λ q. []) refusal_line check_is;
+    replies = tail_replies held file text told (λ j. then_ (passes j) (λ _. Gives accepted_reply)) (λ q. []) refusal_line check_there;
+  }
+
+  -- what `explain F` says
+  explain_replies : (file text : List ℕ) → held file ≡ Some text → RepliesTo held (Explain file) text explanation (λ q. [])
+  unfolding then_
+  explain_replies file text told = record {
+    named = named_told held file text told;
+    judged = tail_judged held file text told (λ j. Gives (explain_reply j)) explanation (λ q. []) explain_is;
+    replies = tail_replies held file text told (λ j. Gives (explain_reply j)) explanation (λ q. []) explain_there;
+  }
+
+-- ---- what reached the sinks
+
+module _ (held : List ℕ → Option (List ℕ)) (before now : List ℕ → ℕ) (out err : Stream) (status : Status) (s : Shape) (text : List ℕ) (on_out on_err : Refusal → List ℕ) where
+  -- ---- what a verdict says of the text
+
+  done_of : (j : Judgement) → IsJudged (Some text) j → (a : Outcome) → a ≡ outcome_of (reply_to on_out on_err j) → a.status ≡ Status.Done
+      → Appends out.told_before out.told_now a.out → Appends err.told_before err.told_now a.err
+      → Accepts text × Appends out.told_before out.told_now accepted_line × Appends err.told_before err.told_now []
+  done_of Accepted is a same done put_out put_err = (
+    is,
+    subst (λ o. Appends out.told_before out.told_now o.out) same put_out,
+    subst (λ o. Appends err.told_before err.told_now o.err) same put_err,
+  )
+  done_of (Refused r) is a same done put_out put_err =
+      absurd (let e : Status.Refused ≡ Status.Done = sym (ap (λ o. o.status) same) ∙ done in cc)
+
+  refused_of : (j : Judgement) → IsJudged (Some text) j → (a : Outcome) → a ≡ outcome_of (reply_to on_out on_err j) → a.status ≡ Status.Refused
+      → Appends out.told_before out.told_now a.out → Appends err.told_before err.told_now a.err
+      → (r : Refusal) × FirstRefusal text r × Appends out.told_before out.told_now (on_out r) × Appends err.told_before err.told_now (on_err r)
+  refused_of Accepted is a same refused put_out put_err =
+      absurd (let e : Status.Done ≡ Status.Refused = sym (ap (λ o. o.status) same) ∙ refused in cc)
+  refused_of (Refused r) is a same refused put_out put_err = (
+    r,
+    is,
+    subst (λ o. Appends out.told_before out.told_now o.out) same put_out,
+    subst (λ o. Appends err.told_before err.told_now o.err) same put_err,
+  )
+
+  -- ---- what the text says of the status
+
+  reached : (t : Outcome) → Reaches out err t status → (status ≡ t.status) ⊎ (status ≡ Status.WriteFault) ⊎ (status ≡ Status.Memory)
+  reached t reaches =
+      elim reaches [
+        | inl put ↦ inl put.0
+        | inr other ↦ elim other [ inl failed ↦ inr (inl failed.0) | inr none ↦ inr (inr none.0) ]
+      ]
+
+  or_fault : Answers (Some s) held before now out err status → (a : Outcome) → IsAnswer (Some s) held a → IsOrFault a.status status
+  or_fault answers a is =
+      elim (answers a is) [
+        | inl reaches ↦ elim (reached a reaches) [ inl same ↦ inl same | inr fault ↦ inr (inr fault) ]
+        | inr rest ↦ elim rest [
+          | inl unread ↦ inr (reached _ unread.2)
+          | inr reaches ↦ elim (reached _ reaches) [ inl none ↦ inr (inr (inr none)) | inr fault ↦ inr (inr fault) ]
         ]
+      ]
 
-    or_fault : Answers (Some (Check file)) held before now out err status → (a : Outcome) → IsAnswer (Some (Check file)) held a → IsOrFault a.status status
-    or_fault answers a is =
-        elim (answers a is) [
-          | inl reaches ↦ elim (reached a reaches) [ inl same ↦ inl same | inr fault ↦ inr (inr fault) ]
-          | inr rest ↦ elim rest [
-            | inl unread ↦ inr (reached _ unread.2)
-            | inr reaches ↦ elim (reached _ reaches) [ inl none ↦ inr (inr (inr none)) | inr fault ↦ inr (inr fault) ]
-          ]
-        ]
-
-    checked : Answers (Some (Check file)) held before now out err status → Judges (Some (Check file)) held out err status → IsChecked text out err status
-    checked answers judges = record {
-      done = λ done.
-          let a = judges Verdict.Done done named_told in
-          let said = replies_judged a.1.0 a.1.1 in
-          done_of said.0 said.1 a.0 (a.1.2 ∙ ap outcome_of said.2) (a.2 ∙ done) a.3 a.4;
-      refused = λ refused.
-          let a = judges Verdict.Refused refused named_told in
-          let said = replies_judged a.1.0 a.1.1 in
-          refused_of said.0 said.1 a.0 (a.1.2 ∙ ap outcome_of said.2) (a.2 ∙ refused) a.3 a.4;
-      accepted = λ is. or_fault answers (outcome_of check_reply) (check_reply, judged_replies Accepted is, refl);
-      first = λ r is. or_fault answers (outcome_of (refused_reply r)) (refused_reply r, judged_replies (Refused r) is, refl);
-    }
+  -- the answer to a command that replies to the judgements on a text checks the text
+  checked : RepliesTo held s text on_out on_err → Answers (Some s) held before now out err status → Judges (Some s) held out err status
+      → IsChecked on_out on_err text out err status
+  checked says answers judges =
+      let reply = reply_to on_out on_err in
+      record {
+        done = λ done.
+            let a = judges Verdict.Done done says.named in
+            let said = says.judged a.1.0 a.1.1 in
+            done_of said.0 said.1 a.0 (a.1.2 ∙ ap outcome_of said.2) (a.2 ∙ done) a.3 a.4;
+        refused = λ refused.
+            let a = judges Verdict.Refused refused says.named in
+            let said = says.judged a.1.0 a.1.1 in
+            refused_of said.0 said.1 a.0 (a.1.2 ∙ ap outcome_of said.2) (a.2 ∙ refused) a.3 a.4;
+        accepted = λ is. or_fault answers (outcome_of (reply Accepted)) (reply Accepted, says.replies Accepted is, refl);
+        first = λ r is. or_fault answers (outcome_of (reply (Refused r))) (reply (Refused r), says.replies (Refused r) is, refl);
+      }
 
 module _ (held : List ℕ → Option (List ℕ)) (before now : List ℕ → ℕ) (out err : Stream) (status : Status) where
-  checked_told : (file : List ℕ) (o : Option (List ℕ)) → held file ≡ o
-      → Answers (Some (Check file)) held before now out err status → Judges (Some (Check file)) held out err status → IfSome o (λ text. IsChecked text out err status)
-  checked_told file None told answers judges = tt
-  checked_told file (Some text) told answers judges = checked held file text told before now out err status answers judges
+  -- a file that is told, or isn't
+  checked_told : (s : Shape) (on_out on_err : Refusal → List ℕ) (o : Option (List ℕ)) → ((text : List ℕ) → o ≡ Some text → RepliesTo held s text on_out on_err)
+      → Answers (Some s) held before now out err status → Judges (Some s) held out err status → IfSome o (λ text. IsChecked on_out on_err text out err status)
+  checked_told s on_out on_err None says answers judges = tt
+  checked_told s on_out on_err (Some text) says answers judges =
+      checked held before now out err status s text on_out on_err (says text refl) answers judges
 
   pub checks_of : (asked : Option Shape) → Answers asked held before now out err status → Judges asked held out err status → Checks asked held out err status
   checks_of None answers judges = tt
-  checks_of (Some (Check file)) answers judges = checked_told file (held file) refl answers judges
+  checks_of (Some (Check file)) answers judges = checked_told (Check file) (λ r. []) refusal_line (held file) (check_replies held file) answers judges
+  checks_of (Some (Explain file)) answers judges = checked_told (Explain file) explanation (λ r. []) (held file) (explain_replies held file) answers judges

@@ -2,11 +2,12 @@
 use Rattle.std.specs.Prelude.{ℕ, ◌≡◌, ◌⊎◌, ◌≢◌, ◌-◌, ◌^◌, ◌<◌, List, [], Option, None, Some, IsSome, IfSome, Contains}
 use Rattle.std.specs.Io.KnownBytes.{Appends}
 use Rattle.accept.specs.FirstRefusal.{Accepts, FirstRefusal}
+use Rattle.refusals.specs.Explanations.{explanation}
 use Rattle.refusals.specs.declared.refusal.Refusal.{Refusal}
 use Rattle.sys_outside.specs.Fault.{Rose}
 use Rattle.systole_top.specs.Commands.{tree_of, files_of}
 use Rattle.systole_top.specs.Reply.{Reply, Outcome, status_of, outcome_of, usage, unread, no_memory}
-use Rattle.systole_top.specs.Shape.{Shape, Check}
+use Rattle.systole_top.specs.Shape.{Shape, Check, Explain}
 use Rattle.systole_top.specs.Sides.{Stream, Reaches}
 use Rattle.systole_top.specs.Texts.{cannot_read, accepted_line, refusal_line}
 use Rattle.systole_top.specs.Tree.{Replies, Comes, Tries}
@@ -74,19 +75,21 @@ abbrev pub IsOrFault : Status → Status → Type 0
 IsOrFault wanted status =
     (status ≡ wanted) ⊎ (status ≡ Status.ReadFault) ⊎ (status ≡ Status.WriteFault) ⊎ (status ≡ Status.Memory)
 
--- What `check` says of a text: Done and `accepted` exactly where the text has no refusal, Refused and the line of the first refusal
--- exactly where it has one, but for faults.
-pub record IsChecked (text : List ℕ) (out err : Stream) (status : Status) : Type 0 where
+-- What is said of a text: Done and `accepted` exactly where the text has no refusal, Refused and these bytes on each side for the first
+-- refusal exactly where it has one, but for faults.
+pub record IsChecked (on_out on_err : Refusal → List ℕ) (text : List ℕ) (out err : Stream) (status : Status) : Type 0 where
   pub done : status ≡ Status.Done → Accepts text × Appends out.told_before out.told_now accepted_line × Appends err.told_before err.told_now []
   pub refused : status ≡ Status.Refused
-      → (r : Refusal) × FirstRefusal text r × Appends out.told_before out.told_now [] × Appends err.told_before err.told_now (refusal_line r)
+      → (r : Refusal) × FirstRefusal text r × Appends out.told_before out.told_now (on_out r) × Appends err.told_before err.told_now (on_err r)
   pub accepted : Accepts text → IsOrFault Status.Done status
   pub first : (r : Refusal) → FirstRefusal text r → IsOrFault Status.Refused status
 
--- Where the words are `check F` and the file F is told, its text is checked.
+-- Where the words are `check F` or `explain F` and the file F is told, its text is checked: of the first refusal, `check` puts the line on
+-- standard error, and `explain` the explanation on standard output.
 abbrev pub Checks : Option Shape → (List ℕ → Option (List ℕ)) → Stream → Stream → Status → Type 0
 Checks None held out err status = Unit {0}
-Checks (Some (Check file)) held out err status = IfSome (held file) (λ text. IsChecked text out err status)
+Checks (Some (Check file)) held out err status = IfSome (held file) (λ text. IsChecked (λ r. []) refusal_line text out err status)
+Checks (Some (Explain file)) held out err status = IfSome (held file) (λ text. IsChecked explanation (λ r. []) text out err status)
 
 -- Words with no shape are a faulty command line, unless a put failed or memory ran out; others never are.
 abbrev pub UsageCause : Option Shape → Status → Type 0

@@ -1,16 +1,24 @@
 -- The shapes of the words of a command line.
-use Rattle.std.specs.Prelude.{ℕ, ◌&&◌, nat_lt, length, List, [], ◌∷◌, codes, bytes_eq, Option, Some, None, if◌then◌else◌}
+use Rattle.std.specs.Prelude.{ℕ, nat_lt, length, List, [], ◌∷◌, codes, bytes_eq, Option, Some, None, if◌then◌else◌}
 use Rattle.systole_top.specs.declared.words.Command.{Command}
 
 -- A command, with its words. A file name has at least one byte.
 pub data Shape : Type 0 where
   Check : (file : List ℕ) → Shape
+  Explain : (file : List ℕ) → Shape
+
+-- the shape of a word and a file name
+abbrev pub file_shape : List ℕ → List ℕ → Option Shape
+file_shape command file =
+    if bytes_eq command (codes "check") then Some (Check file) else (
+    if bytes_eq command (codes "explain") then Some (Explain file) else None)
 
 -- the shape of the words, if they have one
 abbrev pub shape : List (List ℕ) → Option Shape
-shape (command ∷ file ∷ []) = if bytes_eq command (codes "check") && nat_lt 0 (length file) then Some (Check file) else None
+shape (command ∷ file ∷ []) = if nat_lt 0 (length file) then file_shape command file else None
 shape _ = None
 
 -- the shape that a command has
 abbrev pub seen : Command → Shape
 seen (Command.Check file) = Check file.now
+seen (Command.Explain file) = Explain file.now

@@ -1,24 +1,19 @@
 ghost use Rattle.std.specs.Prelude.{◌≡◌, IfOk, IsTrue};
-ghost use Rattle.std.specs.Option.{option_map};
 ghost use Rattle.refusals.specs.Texts.{is_kind_known};
-ghost use Rattle.systole_top.specs.Commands.{judgement_of, judged, passes, accepted, check_reply, refused_reply, tree_of};
+ghost use Rattle.systole_top.specs.Commands.{passes, accepted, accepted_reply, refused_reply, tree_of};
 ghost use Rattle.systole_top.specs.Judgement.{HasLine};
 ghost use Rattle.systole_top.specs.Runs.{Steps, Shows};
 ghost use Rattle.systole_top.specs.Shape.{Check};
-ghost use Rattle.systole_top.specs.Stops.{bytes_of, ended, reply_of};
+ghost use Rattle.systole_top.specs.Stops.{ended, reply_of};
 ghost use Rattle.systole_top.specs.Texts.{accepted_line, refusal_line};
 ghost use Rattle.systole_top.specs.Tree.{Gives};
 
 use crate::answer::{Answer, Side, Stop, Verdict};
-use crate::judgement::{Judgement, judge};
-use crate::read::read_file;
+use crate::judgement::{Judgement, judged};
 use refusals::{Refusal, text};
 use std::alloc::{AllocError, Global};
 use sys_base::Memory;
 use sys_outside::Shelf;
-
-/// The most bytes that a source has.
-pub const SOURCE_BYTES: usize = 1_048_576;
 
 /// `check F`: whether the source is accepted.
 #[tactic(auto, using(crate::proofs::Trees::step_stop))]
@@ -27,11 +22,12 @@ pub fn check<S: Shelf>(alloc: Global, shelf: &mut S, file: &str) -> Result<Answe
         (tree_of (Check file.now)) (ended reply_of result) }
 {
     accepted(alloc, shelf, file)?;
-    check_reply(alloc)
+    accepted_reply(alloc)
 }
 
-fn check_reply(alloc: Global) -> Result<Answer, Stop>
-    ensures { Shows (Gives check_reply) (ended reply_of result) }
+/// Says that the source is accepted.
+pub fn accepted_reply(alloc: Global) -> Result<Answer, Stop>
+    ensures { Shows (Gives accepted_reply) (ended reply_of result) }
 {
     Ok(Answer {
         verdict: Verdict::Done,
@@ -79,27 +75,6 @@ fn refusal_line(alloc: Global, refusal: &Refusal) -> Result<Vec<u8>, Memory>
     let mut line = text(alloc, refusal)?;
     line.push(b'\n')?;
     Ok(line)
-}
-
-// Reads a source and judges it.
-#[tactic(auto, using(crate::proofs::Trees::step_stop))]
-fn judged<S: Shelf>(alloc: Global, shelf: &mut S, file: &str) -> Result<Judgement, Stop>
-    ensures steps { Steps (S.held shelf.old) (S.held shelf.new) (S.faults shelf.old) (S.faults shelf.new)
-        (judged file.now) (ended (λ x. x) result) }
-    ensures line { IfOk result HasLine }
-{
-    let text = read_file(alloc, shelf, file, SOURCE_BYTES)?;
-    judgement_of(alloc, text)
-}
-
-fn judgement_of(alloc: Global, text: Option<Vec<u8>>) -> Result<Judgement, Stop>
-    ensures shows { Shows (judgement_of (option_map bytes_of text)) (ended (λ x. x) result) }
-    ensures line { IfOk result HasLine }
-{
-    match text {
-        None => Ok(Judgement::Refused(Refusal::LongSource)),
-        Some(text) => Ok(judge(alloc, &text)?),
-    }
 }
 
 #[tactic(auto, unfolding(crate::specs::Texts::accepted_line))]

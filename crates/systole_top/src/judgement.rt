@@ -1,11 +1,21 @@
 ghost use Rattle.std.specs.Prelude.{◌≡◌, Some, IfOk};
+ghost use Rattle.std.specs.Option.{option_map};
+ghost use Rattle.systole_top.specs.Commands.{judgement_of, judged};
 ghost use Rattle.systole_top.specs.Judgement.{IsJudged, HasLine};
 ghost use Rattle.systole_top.specs.Only.{IsOnly};
+ghost use Rattle.systole_top.specs.Runs.{Steps, Shows};
+ghost use Rattle.systole_top.specs.Stops.{bytes_of, ended};
 
+use crate::answer::Stop;
+use crate::read::read_file;
 use accept::{AcceptError, build, one_first_refusal};
 use refusals::Refusal;
 use std::alloc::Global;
 use sys_base::Memory;
+use sys_outside::Shelf;
+
+/// The most bytes that a source has.
+pub const SOURCE_BYTES: usize = 1_048_576;
 
 /// What a source is found to be.
 #[derive(Debug, Drop)]
@@ -16,8 +26,29 @@ pub enum Judgement {
     Refused(Refusal),
 }
 
+/// Reads a source and judges it.
+#[tactic(auto, using(crate::proofs::Trees::step_stop))]
+pub fn judged<S: Shelf>(alloc: Global, shelf: &mut S, file: &str) -> Result<Judgement, Stop>
+    ensures steps { Steps (S.held shelf.old) (S.held shelf.new) (S.faults shelf.old) (S.faults shelf.new)
+        (judged file.now) (ended (λ x. x) result) }
+    ensures line { IfOk result HasLine }
+{
+    let text = read_file(alloc, shelf, file, SOURCE_BYTES)?;
+    judgement_of(alloc, text)
+}
+
+fn judgement_of(alloc: Global, text: Option<Vec<u8>>) -> Result<Judgement, Stop>
+    ensures shows { Shows (judgement_of (option_map bytes_of text)) (ended (λ x. x) result) }
+    ensures line { IfOk result HasLine }
+{
+    match text {
+        None => Ok(Judgement::Refused(Refusal::LongSource)),
+        Some(text) => Ok(judge(alloc, &text)?),
+    }
+}
+
 /// Accepts a source without a refusal, and else says its first one.
-pub fn judge(alloc: Global, text: &[u8]) -> Result<Judgement, Memory>
+fn judge(alloc: Global, text: &[u8]) -> Result<Judgement, Memory>
     ensures judged { IfOk result (IsOnly (IsJudged (Some text.now))) }
     ensures line { IfOk result HasLine }
 {

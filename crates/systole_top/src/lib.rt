@@ -4,6 +4,7 @@
 mod answer;
 mod check;
 mod command;
+mod explain;
 mod judgement;
 mod read;
 mod say;

@@ -14,12 +14,14 @@ fn words(alloc: Global, texts: &[&str]) -> Result<Vec<String>, Fail> {
 #[test]
 fn words_with_no_shape_are_usage(rt: HostRuntime) -> Result<(), Fail> {
     let alloc = rt.alloc();
-    let lines: [&[&str]; 5] = [
+    let lines: [&[&str]; 7] = [
         &[],
         &["check"],
         &["check", ""],
+        &["explain", ""],
         &["run", "F"],
         &["check", "F", "G"],
+        &["explain", "F", "G"],
     ];
     for texts in lines {
         let mut shelf = SureShelf::new(Vec::new(alloc));
@@ -33,12 +35,16 @@ fn words_with_no_shape_are_usage(rt: HostRuntime) -> Result<(), Fail> {
 }
 
 // Asks for a file that isn't there, over an `err` of which the first put may fail.
-fn miss(alloc: Global, failing: Vec<(u32, usize)>) -> Result<(Status, SureSink, MemSink), Fail> {
+fn miss(
+    alloc: Global,
+    command: &str,
+    failing: Vec<(u32, usize)>,
+) -> Result<(Status, SureSink, MemSink), Fail> {
     let mut shelf = MemShelf::new(Vec::new(alloc), Vec::new(alloc));
     let (mut out, mut err) = (SureSink::new(alloc), MemSink::new(alloc, failing));
     let status = systole(
         alloc,
-        &words(alloc, &["check", "G"])?,
+        &words(alloc, &[command, "G"])?,
         &mut shelf,
         &mut out,
         &mut err,
@@ -49,10 +55,12 @@ fn miss(alloc: Global, failing: Vec<(u32, usize)>) -> Result<(Status, SureSink, 
 #[test]
 fn missing_file_is_a_read_fault(rt: HostRuntime) -> Result<(), Fail> {
     let alloc = rt.alloc();
-    let (status, out, err) = miss(alloc, Vec::new(alloc))?;
-    assert_eq!(rt; status, Status::ReadFault);
-    assert_eq!(rt; out.bytes(), b"".as_slice());
-    assert_eq!(rt; err.bytes(), b"cannot read G\n".as_slice());
+    for command in ["check", "explain"] {
+        let (status, out, err) = miss(alloc, command, Vec::new(alloc))?;
+        assert_eq!(rt; status, Status::ReadFault);
+        assert_eq!(rt; out.bytes(), b"".as_slice());
+        assert_eq!(rt; err.bytes(), b"cannot read G\n".as_slice());
+    }
     Ok(())
 }
 
@@ -61,7 +69,7 @@ fn missing_file_is_a_read_fault(rt: HostRuntime) -> Result<(), Fail> {
 fn failing_put_is_a_write_fault(rt: HostRuntime) -> Result<(), Fail> {
     let alloc = rt.alloc();
     for (count, taken) in [(0, ""), (4, "cann")] {
-        let (status, out, err) = miss(alloc, vec![in alloc; (0, count)]?)?;
+        let (status, out, err) = miss(alloc, "check", vec![in alloc; (0, count)]?)?;
         assert_eq!(rt; status, Status::WriteFault);
         assert_eq!(rt; out.bytes(), b"".as_slice());
         assert_eq!(rt; err.bytes(), taken.as_bytes());
@@ -75,9 +83,10 @@ const PIPE: &[u8] =
 const CROSSED: &[u8] =
     b"array 1 x 2; queues 1; message A from 0.0 to 0.1; message B from 0.0 to 0.1; cell 0.0 { write A 1; write B 2; } cell 0.1 { var x; read B x; read A x; }";
 
-// Checks a source over an `out` of which the first put may fail.
-fn check(
+// Asks a command of a source, over an `out` of which the first put may fail.
+fn ask(
     alloc: Global,
+    command: &str,
     source: Vec<u8>,
     failing: Vec<(u32, usize)>,
 ) -> Result<(Status, MemSink, SureSink), Fail> {
@@ -85,9 +94,13 @@ fn check(
     files.push((String::from_str(alloc, "F")?, source))?;
     let mut shelf = SureShelf::new(files);
     let (mut out, mut err) = (MemSink::new(alloc, failing), SureSink::new(alloc));
-    let words = words(alloc, &["check", "F"])?;
+    let words = words(alloc, &[command, "F"])?;
     let status = systole(alloc, &words, &mut shelf, &mut out, &mut err);
     Ok((status, out, err))
+}
+
+fn check(alloc: Global, source: Vec<u8>) -> Result<(Status, MemSink, SureSink), Fail> {
+    ask(alloc, "check", source, Vec::new(alloc))
 }
 
 #[test]
@@ -95,7 +108,7 @@ fn sources_without_a_refusal_are_accepted(rt: HostRuntime) -> Result<(), Fail> {
     let alloc = rt.alloc();
     let table: [&[u8]; 2] = [PIPE, b"array 01 x 2;queues 1;# no cells"];
     for source in table {
-        let (status, out, err) = check(alloc, source.to_vec(alloc)?, Vec::new(alloc))?;
+        let (status, out, err) = check(alloc, source.to_vec(alloc)?)?;
         assert_eq!(rt; status, Status::Done);
         assert_eq!(rt; out.bytes(), b"accepted\n".as_slice());
         assert_eq!(rt; err.bytes(), b"".as_slice());
@@ -107,11 +120,11 @@ fn sources_without_a_refusal_are_accepted(rt: HostRuntime) -> Result<(), Fail> {
 const REFUSED: [(&[u8], &str); 11] = [
     (
         b"array 1 x 2; queues 1; cell 0.2 { }",
-        "E00 not a straight source\n",
+        "E12 line 1: outside the grid\n",
     ),
     (
-        b"array 1 x 2; queues 1; cell 0.0 { emit 1; }",
-        "E00 not a straight source\n",
+        b"array 1 x 2; queues 1;\ncell 0.0 { emit x; }",
+        "E14 line 2: x is not declared\n",
     ),
     (b"@", "E01 byte at 0 is not part of the language\n"),
     (b"", "E02 line 1 column 1: not expected here\n"),
@@ -146,7 +159,7 @@ const REFUSED: [(&[u8], &str); 11] = [
 fn first_refusal_is_said(rt: HostRuntime) -> Result<(), Fail> {
     let alloc = rt.alloc();
     for (source, line) in REFUSED {
-        let (status, out, err) = check(alloc, source.to_vec(alloc)?, Vec::new(alloc))?;
+        let (status, out, err) = check(alloc, source.to_vec(alloc)?)?;
         assert_eq!(rt; status, Status::Refused);
         assert_eq!(rt; out.bytes(), b"".as_slice());
         assert_eq!(rt; err.bytes(), line.as_bytes());
@@ -168,7 +181,7 @@ fn longest_source_is_read(rt: HostRuntime) -> Result<(), Fail> {
     for (size, wanted, on_err) in table {
         let mut source = PIPE.to_vec(alloc)?;
         source.resize(size, b' ')?;
-        let (status, _, err) = check(alloc, source, Vec::new(alloc))?;
+        let (status, _, err) = check(alloc, source)?;
         assert_eq!(rt; status, wanted);
         assert_eq!(rt; err.bytes(), on_err.as_bytes());
     }
@@ -182,10 +195,56 @@ fn failing_put_takes_a_part_of_the_answer(rt: HostRuntime) -> Result<(), Fail> {
         "", "a", "ac", "acc", "acce", "accep", "accept", "accepte", "accepted",
     ] {
         let failing = vec![in alloc; (0, taken.len())]?;
-        let (status, out, err) = check(alloc, PIPE.to_vec(alloc)?, failing)?;
+        let (status, out, err) = ask(alloc, "check", PIPE.to_vec(alloc)?, failing)?;
         assert_eq!(rt; status, Status::WriteFault);
         assert_eq!(rt; out.bytes(), taken.as_bytes());
         assert_eq!(rt; err.bytes(), b"".as_slice());
     }
+    Ok(())
+}
+
+#[test]
+fn accepted_source_needs_no_explanation(rt: HostRuntime) -> Result<(), Fail> {
+    let alloc = rt.alloc();
+    let (status, out, err) = ask(alloc, "explain", PIPE.to_vec(alloc)?, Vec::new(alloc))?;
+    assert_eq!(rt; status, Status::Done);
+    assert_eq!(rt; out.bytes(), b"accepted\n".as_slice());
+    assert_eq!(rt; err.bytes(), b"".as_slice());
+    Ok(())
+}
+
+// Sources that are refused, each with its explanation.
+const EXPLAINED: [(&[u8], &str); 3] = [
+    (b"@", "E01 byte at 0 is not part of the language\n"),
+    (
+        CROSSED,
+        "E30 crossing-off leaves 4 operations\n0.0 waits to write A to 0.1\n0.1 waits to read B from 0.0\n0.0 again\n",
+    ),
+    (
+        b"array 1 x 2; queues 1; message A from 0.0 to 0.1; cell 0.0 { write A 1; }",
+        "E30 crossing-off leaves 1 operations\n0.0 waits to write A to 0.1\n0.1 has nothing left\n",
+    ),
+];
+
+#[test]
+fn explanation_goes_to_out(rt: HostRuntime) -> Result<(), Fail> {
+    let alloc = rt.alloc();
+    for (source, text) in EXPLAINED {
+        let (status, out, err) = ask(alloc, "explain", source.to_vec(alloc)?, Vec::new(alloc))?;
+        assert_eq!(rt; status, Status::Refused);
+        assert_eq!(rt; out.bytes(), text.as_bytes());
+        assert_eq!(rt; err.bytes(), b"".as_slice());
+    }
+    Ok(())
+}
+
+#[test]
+fn failing_put_takes_a_part_of_the_explanation(rt: HostRuntime) -> Result<(), Fail> {
+    let alloc = rt.alloc();
+    let failing = vec![in alloc; (0, 4)]?;
+    let (status, out, err) = ask(alloc, "explain", b"@".to_vec(alloc)?, failing)?;
+    assert_eq!(rt; status, Status::WriteFault);
+    assert_eq!(rt; out.bytes(), b"E01 ".as_slice());
+    assert_eq!(rt; err.bytes(), b"".as_slice());
     Ok(())
 }

@@ -6,6 +6,7 @@ ghost use Rattle.systole_top.specs.Shape.{shape, seen};
 #[derive(Clone, Copy)]
 pub enum Command<'a> {
     Check(&'a str),
+    Explain(&'a str),
 }
 
 /// Reads the words of a command line; `None` where they are no command.
@@ -21,8 +22,12 @@ pub fn read_words(words: &[String]) -> Option<Command<'_>>
 fn read_pair<'a>(command: &str, file: &'a str) -> Option<Command<'a>>
     ensures { option_map seen result ≡ shape (command.now ∷ file.now ∷ []) }
 {
-    if command == "check" && !file.is_empty() {
-        return Some(Command::Check(file));
+    if file.is_empty() {
+        return None;
     }
-    None
+    match command {
+        "check" => Some(Command::Check(file)),
+        "explain" => Some(Command::Explain(file)),
+        _ => None,
+    }
 }

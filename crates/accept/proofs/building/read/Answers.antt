@@ -1,6 +1,5 @@
 use Rattle.accept.specs.Reading.{misplaced}
 use Rattle.accept.proofs.Refused.{misplaced_refused, handed_on}
-use Rattle.accept.proofs.Words.{few_statements}
 use Rattle.accept.proofs.building.read.Goals as goal
 
 pub returns-in_err-parse-clause-refused : goal.returns-in_err-parse-clause-refused
@@ -9,9 +8,3 @@ returns-in_err-parse-clause-refused c =
     (misplaced_refused c.args.text.now c.requires c.laws_below.ensures.apart c.laws_below.ensures.tokens
     c.in_ok-tokens.tokens.items c.in_ok-tokens.ensures.tokens c.in_err-parse.field-0.0
     (rw c.deref.ensures.value at c.in_err-parse.ensures.refused))
-
-pub returns-clause-few : goal.returns-clause-few
-returns-clause-few c =
-    few_statements c.args.text.now c.in_ok-tokens.tokens.items c.in_ok-parse.field-0 c.in_ok-tokens.ensures.tokens
-    c.in_ok-tokens.ensures.nonempty c.in_ok-tokens.ensures.inside
-    (rw c.deref.ensures.value at c.in_ok-parse.ensures.read.0)

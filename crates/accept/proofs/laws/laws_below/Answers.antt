@@ -8,5 +8,7 @@ returns c = record {
   program = c.one_program.ensures;
   wrong = c.one_first_wrong.ensures.one;
   none_wrong = c.one_first_wrong.ensures.none;
+  alike = c.alike_where_none_differ.ensures;
   order = c.one_greedy_order.ensures;
+  walk = c.one_walk.ensures;
 }

@@ -1,71 +1,58 @@
-use Rattle.std.proofs.Common.{◌+◌, ◌-◌, Option, set, subst, refl, arith}
-use Rattle.std.specs.Vec.{with_item}
-use Rattle.std.proofs.lemmas.List.{get_or_read, get_or-set_other, length-set}
+use Rattle.std.proofs.Common.{◌≤◌, [], List, length, get_or, drop, sym, ap, subst, refl, arith}
 use Rattle.std.proofs.lemmas.Result.{on_ok_weaker}
-use Rattle.crossing_off.specs.declared.Comm.{Comm}
-use Rattle.crossing_off.specs.declared.Comm.TheVariants.{Write, Read}
+use Rattle.std.proofs.lemmas.List.{length-set}
+use Rattle.comm_sequence.specs.declared.comm.Comm.{Comm}
 use Rattle.crossing_off.specs.declared.worklist.Crossing.{Crossing}
-use Rattle.crossing_off.specs.Ends.{items_of}
-use Rattle.crossing_off.specs.Worklist.{HasAdded}
-use Rattle.crossing_off.proofs.Turn.{not_crossed, place_fits, in_place, places_moved, crossed}
+use Rattle.crossing_off.specs.Worklist.{HasAdvanced}
+use Rattle.crossing_off.proofs.Ends.{has_ends_at}
+use Rattle.crossing_off.proofs.Turn.{cells_there, stands_first, some_sender, some_receiver, crossed}
 use Rattle.crossing_off.proofs.worklist.Crossing.try_message.Goals as goal
 
-pub returns-in_default-clause-complete : goal.returns-in_default-clause-complete
-returns-in_default-clause-complete c = not_crossed (items_of c.args.lists.now) c.args.self.now c.args.message c.requires.under_way c.requires.popped c.in_default.ensures
+pub advance-requires-clause-cell : goal.advance-requires-clause-cell
+advance-requires-clause-cell c = (cells_there c.args.seqs.now c.args.self.now c.args.message c.ends-sender.result c.requires.under_way c.ends-sender.ensures.ends).0
 
-pub overflow_add-index_mut : goal.overflow_add-index_mut
-overflow_add-index_mut c =
-    let places = c.args.self.now.places.items in
-    let first = c.in-Some.ensures in
-    let p = in_place (items_of c.args.lists.now) c.args.self.now c.args.message c.in-Some.writer c.in-Some.reader c.requires.under_way first in
-    omega (
-      arith,
-      get_or_read places c.in-Some.writer c.index_mut.result.now p.writer_in c.index_mut.ensures.value 0,
-      place_fits c.args.lists.now places c.in-Some.writer (Write c.args.message) c.requires.few first.writer_in first.write,
-    )
+pub advance-requires-clause-some : goal.advance-requires-clause-some
+advance-requires-clause-some c =
+    let s = c.args.seqs.now in
+    let now = c.args.self.now in
+    let e = has_ends_at s c.args.message c.ends-sender.result c.requires.under_way.sound c.ends-sender.ensures.ends in
+    let ready = c.is_ready.ensures.0 c.if-not-is_ready.false in
+    some_sender s now c.args.message c.requires.under_way (stands_first s now.order.items c.args.message e ready)
 
-pub overflow_add-index_mut-2 : goal.overflow_add-index_mut-2
-overflow_add-index_mut-2 c =
-    let places = c.args.self.now.places.items in
-    let x = c.index_mut.result.now in
-    let first = c.in-Some.ensures in
-    let p = in_place (items_of c.args.lists.now) c.args.self.now c.args.message c.in-Some.writer c.in-Some.reader c.requires.under_way first in
-    omega (
-      arith,
-      get_or_read (set places c.in-Some.writer (x + 1)) c.in-Some.reader c.index_mut-2.result.now (omega (arith, p.reader_in, length-set places c.in-Some.writer (x + 1))) c.index_mut-2.ensures.value 0,
-      get_or-set_other places c.in-Some.writer c.in-Some.reader (x + 1) 0 p.differ,
-      place_fits c.args.lists.now places c.in-Some.reader (Read c.args.message) c.requires.few first.reader_in first.read,
-    )
+pub advance-requires-2-clause-cell : goal.advance-requires-2-clause-cell
+advance-requires-2-clause-cell c =
+    let old = c.args.self.now.rests.items in
+    let x = c.ends-sender.result in
+    let there = cells_there c.args.seqs.now c.args.self.now c.args.message x c.requires.under_way c.ends-sender.ensures.ends in
+    omega (arith, there.1, ap length c.in_ok-advance.ensures.rests, length-set old x.0 (drop 1 (get_or old x.0 [])))
 
-pub overflow_sub-self : goal.overflow_sub-self
-overflow_sub-self c =
-    (in_place (items_of c.args.lists.now) c.args.self.now c.args.message c.in-Some.writer c.in-Some.reader c.requires.under_way c.in-Some.ensures).enough
+pub advance-requires-2-clause-some : goal.advance-requires-2-clause-some
+advance-requires-2-clause-some c =
+    let s = c.args.seqs.now in
+    let now = c.args.self.now in
+    let x = c.ends-sender.result in
+    let e = has_ends_at s c.args.message x c.requires.under_way.sound c.ends-sender.ensures.ends in
+    let ready = c.is_ready.ensures.0 c.if-not-is_ready.false in
+    let P : List (List Comm) → Type 0 = λ rests. 1 ≤ length (get_or rests x.1 []) in
+    subst P (sym c.in_ok-advance.ensures.rests)
+    (some_receiver s now c.args.message c.requires.under_way (stands_first s now.order.items c.args.message e ready))
 
 pub returns : goal.returns
 returns c =
-    let lists = items_of c.args.lists.now in
+    let s = c.args.seqs.now in
     let old = c.args.self.now in
-    let writer = c.in-Some.writer in
-    let reader = c.in-Some.reader in
-    let x = c.index_mut.result.now in
-    let y = c.index_mut-2.result.now in
-    let first = c.in-Some.ensures in
-    let p = in_place lists old c.args.message writer reader c.requires.under_way first in
-    let now : Crossing = record {
-      ends = old.ends;
-      places = with_item (with_item old.places writer (x + 1)) reader (y + 1);
-      waiting = c.wait_for-2.new.waiting;
-      order = c.push.new.self;
-      left = old.left - 2;
-    } in
-    let Added : Option Comm → Type 0 = λ o. HasAdded o old.waiting c.wait_for.new.waiting in
-    let AddedAgain : Option Comm → Type 0 = λ o. HasAdded o c.wait_for.new.waiting c.wait_for-2.new.waiting in
-    let added = subst Added c.front-front.ensures c.in_ok-wait_for.ensures in
-    let all = λ (again : AddedAgain c.front-front-2.result).
-    crossed lists old now c.args.message writer reader c.wait_for.new.waiting c.requires.under_way c.requires.popped first refl c.in_ok-push.ensures.items
-    (places_moved old.places.items writer reader x y p.writer_in p.reader_in c.index_mut.ensures.value c.index_mut-2.ensures.value) refl added (subst AddedAgain c.front-front-2.ensures again) in
+    let m = c.args.message in
+    let x = c.ends-sender.result in
+    let e = has_ends_at s m x c.requires.under_way.sound c.ends-sender.ensures.ends in
+    let ready = c.is_ready.ensures.0 c.if-not-is_ready.false in
+    let start : Crossing = record { rests = old.rests; waiting = old.waiting; order = c.push.new.self } in
+    let middle = c.advance.new.self in
+    let new = c.advance-2.new.self in
+    let all = λ (second : HasAdvanced middle new x.1).
+    crossed s old start middle new m c.requires.under_way c.requires.popped (stands_first s old.order.items m e ready)
+    (record { rests = refl; waiting = refl; order = c.in_ok-push.ensures.items; first = c.in_ok-advance.ensures; second = second }) in
     record {
-      under_way = on_ok_weaker c.wait_for-2.result (λ a. (all a).0) c.wait_for-2.ensures;
-      complete = on_ok_weaker c.wait_for-2.result (λ a. (all a).1) c.wait_for-2.ensures;
-      work = on_ok_weaker c.wait_for-2.result (λ a. (all a).2) c.wait_for-2.ensures;
+      under_way = on_ok_weaker c.advance-2.result (λ h. (all h).0) c.advance-2.ensures;
+      complete = on_ok_weaker c.advance-2.result (λ h. (all h).1) c.advance-2.ensures;
+      work = on_ok_weaker c.advance-2.result (λ h. (all h).2) c.advance-2.ensures;
     }

@@ -1,0 +1,12 @@
+use Rattle.accept.proofs.Near.{fault_near, told_first}
+use Rattle.accept.proofs.building.resolved.Goals as goal
+
+pub static_refusal-requires : goal.static_refusal-requires
+static_refusal-requires c = fault_near c.args.source c.in-Err.fault c.in-Err.ensures.fault
+
+pub returns-in_ok-static_refusal-in-Err-clause-fault : goal.returns-in_ok-static_refusal-in-Err-clause-fault
+returns-in_ok-static_refusal-in-Err-clause-fault c = (
+  told_first c.args.source c.in-Err.fault c.in_ok-static_refusal-in-Err.field-0 c.in-Err.ensures.fault
+      (c.in_ok-static_refusal-in-Err.ensures.told c.args.source.rows),
+  c.in_ok-static_refusal-in-Err.ensures.known,
+)

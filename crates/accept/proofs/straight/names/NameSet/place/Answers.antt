@@ -1,6 +1,0 @@
-use Rattle.std.proofs.Common.{◌∙◌}
-use Rattle.accept.proofs.Places.{position-keys}
-use Rattle.accept.proofs.straight.names.NameSet.place.Goals as goal
-
-pub returns : goal.returns
-returns c = c.get_index_of.ensures.index ∙ position-keys _ _ _ c.bytes.ensures.bytes

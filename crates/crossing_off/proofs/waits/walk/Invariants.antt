@@ -1,0 +1,8 @@
+use Rattle.crossing_off.proofs.Walking.{IsWalking, unvisited}
+use Rattle.crossing_off.proofs.waits.walk.Given as goal
+
+abbrev pub invariant-loop-front : goal.invariant-loop-front
+invariant-loop-front l = IsWalking l.seqs l.residue l.waits.items l.visited.items l.cell
+
+abbrev pub decreases-loop-front : goal.decreases-loop-front
+decreases-loop-front l = unvisited l.visited.items

@@ -1,0 +1,91 @@
+//! The walk of a refusal.
+ghost use Rattle.std.specs.Prelude.{◌≡◌, ◌<◌, ◌≤◌, ℕ, Some, length, IfOk};
+ghost use Rattle.comm_sequence.specs.Sequences.{message_of};
+ghost use Rattle.comm_sequence.specs.declared.comm.Comm.{Comm};
+ghost use Rattle.crossing_off.specs.Answer.{IsResidue};
+ghost use Rattle.crossing_off.specs.Walk.{partner_of, HasFront, IsLeastLeft, IsWalk};
+
+use crate::Residue;
+use comm_sequence::{Comm, Seqs};
+use std::alloc::Global;
+use sys_base::Memory;
+
+/// A cell with something left, its first operation there, and the cell that it waits for: the other end of the operation's
+/// message.
+#[derive(Clone, Copy, Debug, PartialEq, Eq)]
+pub struct Wait {
+    pub cell: u16,
+    pub front: Comm,
+    pub partner: u16,
+}
+
+/// Where a walk ends: at a cell that it has already visited, or at one with nothing left.
+#[derive(Clone, Copy, Debug, PartialEq, Eq)]
+pub enum WalkEnd {
+    Again(u16),
+    NothingLeft(u16),
+}
+
+/// The cells that a walk visits, in its order, and where it ends.
+#[derive(Debug, Drop)]
+pub struct WaitWalk {
+    pub waits: Vec<Wait>,
+    pub end: WalkEnd,
+}
+
+/// Walks from the least cell with something left to the cell that it waits for, and on from there, up to the first cell that it
+/// has already visited or that has nothing left.
+///
+/// The residue is that of these sequences, with something left in it. The only error is want of memory.
+///
+/// It visits each cell once at most, and its time is linear in the number of cells.
+pub fn walk(alloc: Global, seqs: &Seqs, residue: &Residue) -> Result<WaitWalk, Memory>
+    requires residue { IsResidue seqs.now residue.now }
+    requires left { 1 ≤ residue.now.left }
+    ensures { IfOk result (IsWalk seqs.now residue.now) }
+{
+    let mut waits = Vec::new(alloc);
+    let mut visited = vec![in alloc; false; usize::from(seqs.cells())]?;
+    let mut cell = first_left(&residue.fronts);
+    while !visited[usize::from(cell)] {
+        let Some(front) = residue.fronts[usize::from(cell)] else {
+            let end = WalkEnd::NothingLeft(cell);
+            return Ok(WaitWalk { waits, end });
+        };
+        visited[usize::from(cell)] = true;
+        let partner = partner_of(seqs, front);
+        waits.push(Wait {
+            cell,
+            front,
+            partner,
+        })?;
+        cell = partner;
+    }
+    let end = WalkEnd::Again(cell);
+    Ok(WaitWalk { waits, end })
+}
+
+/// The least cell with something left.
+fn first_left(fronts: &[Option<Comm>]) -> u16
+    requires cells { length fronts.now ≤ 256 }
+    requires some { (cell : ℕ) × (comm : Comm) × HasFront fronts.now cell comm }
+    ensures { IsLeastLeft fronts.now result }
+{
+    let mut cell = 0;
+    while fronts[usize::from(cell)].is_none() {
+        cell += 1;
+    }
+    cell
+}
+
+/// The other end of the operation's message.
+fn partner_of(seqs: &Seqs, comm: Comm) -> u16
+    requires { message_of comm < length seqs.now.ends }
+    ensures { partner_of seqs.now.ends comm ≡ Some result }
+{
+    let (sender, receiver) = seqs.ends(comm.message());
+    match comm {
+        Comm::Write(_) => receiver,
+        Comm::Read(_) => sender,
+    }
+}

@@ -1,5 +1,0 @@
-use Rattle.systole_top.proofs.Trees.{step_shows}
-use Rattle.systole_top.proofs.check.judged.Goals as goal
-
-pub returns-clause-steps : goal.returns-clause-steps
-returns-clause-steps g c = step_shows _ c.in_ok-text.ensures c.judgement_of.ensures.shows
