@@ -1,0 +1,9 @@
+pub mod Bits
+pub mod Chains
+pub mod Closed
+pub mod Falling
+pub mod Firsts
+pub mod Keys
+pub mod Proposals
+pub mod Ranges
+pub mod Tables

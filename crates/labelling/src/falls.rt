@@ -1,0 +1,59 @@
+//! Where labels fall.
+ghost use Rattle.std.specs.Prelude.{◌≡◌, ◌<◌, ◌≤◌, ◌↔◌, IsSome, IfSome, [], length, slice_index_or, All, MatchOption};
+ghost use Rattle.comm_sequence.specs.Labels.{IsConsistent};
+ghost use Rattle.comm_sequence.specs.Sequences.{message_of};
+ghost use Rattle.labelling.specs.Falls.{FallsAt, IsFall, NeverFalls, NoFallBefore};
+
+use comm_sequence::{Cursor, Seqs};
+
+/// Where a label falls: in the list of the cell with this index, the operation at the place `at`, from 0, is on the message
+/// `after`, whose label is below that of `before`, the message of the operation just before it.
+#[derive(Clone, Copy, Debug, PartialEq, Eq)]
+pub struct Fall {
+    pub cell: u16,
+    pub at: u32,
+    pub before: u16,
+    pub after: u16,
+}
+
+/// The first fall of the least cell that has one, where each message has the label at its index; `None` exactly where the
+/// labels are consistent: where in each cell's list the label of each message is at most that of the next one.
+///
+/// It passes over the lists once, and takes no memory.
+pub fn check(seqs: &Seqs, labels: &[u16]) -> Option<Fall>
+    requires { length labels.now ≡ length seqs.now.ends }
+    ensures fall { IfSome result (IsFall seqs.now.lists labels.now) }
+    ensures consistent { (IsSome result → ⊥) ↔ IsConsistent seqs.now.lists labels.now }
+{
+    for cell in 0..seqs.cells() {
+        if let Some(fall) = fall_in(seqs.cursor(cell), cell, labels) {
+            return Some(fall);
+        }
+    }
+    None
+}
+
+/// The first fall in the list of a cell.
+fn fall_in(mut cursor: Cursor<'_>, cell: u16, labels: &[u16]) -> Option<Fall>
+    requires messages { All (λ comm. message_of comm < length labels.now) cursor }
+    requires few { length cursor ≤ 4194304 }
+    ensures { MatchOption result (NeverFalls cursor.entry labels.now)
+        (λ fall. (fall.cell ≡ cell) × FallsAt cursor.entry labels.now fall.at fall.before fall.after × NoFallBefore cursor.entry labels.now fall.at) }
+{
+    let mut before = cursor.next()?.message();
+    let mut at = 1;
+    while let Some(operation) = cursor.next() {
+        let after = operation.message();
+        if labels[after as usize] < labels[before as usize] {
+            return Some(Fall {
+                cell,
+                at,
+                before,
+                after,
+            });
+        }
+        before = after;
+        at += 1;
+    }
+    None
+}

@@ -1,0 +1,21 @@
+ghost use Rattle.std.specs.Prelude.{◌≡◌, ◌<◌, ◌↔◌, ℕ, List, All, slice_index};
+ghost use Rattle.comm_sequence.specs.Labels.{IsConsistent, IsProposal, Must};
+ghost use Rattle.comm_sequence.specs.Sequences.{message_of};
+ghost use Rattle.comm_sequence.specs.declared.comm.Comm.{Comm};
+
+/// A law: proposed labels are consistent, if each message in the lists has one.
+pub fn proposed_are_consistent()
+    ensures { (lists : List (List Comm)) (count : ℕ) (labels : List ℕ) → All (λ list. All (λ comm. message_of comm < count) list) lists
+        → IsProposal lists count labels → IsConsistent lists labels }
+{}
+
+/// A law: for the same lists and as many messages the same labels are proposed.
+pub fn one_proposal()
+    ensures { (lists : List (List Comm)) (count : ℕ) (a b : List ℕ) → IsProposal lists count a → IsProposal lists count b → a ≡ b }
+{}
+
+/// A law: two messages have the same proposed label exactly where each must come no later than the other.
+pub fn equal_where_neither_is_later()
+    ensures { (lists : List (List Comm)) (count : ℕ) (labels : List ℕ) (a b : ℕ) → a < count → b < count → IsProposal lists count labels
+        → ((slice_index labels a ≡ slice_index labels b) ↔ (Must lists a b × Must lists b a)) }
+{}
