@@ -1,0 +1,13 @@
+pub mod Counted
+pub mod Examples
+pub mod Firsts
+pub mod Labels
+pub mod Lacking
+pub mod Noted
+pub mod Ranges
+pub mod Runs
+pub mod Sizes
+pub mod SoundGroups
+pub mod Stable
+pub mod UserSteps
+pub mod Whole

@@ -1,0 +1,110 @@
+ghost use Rattle.std.specs.Prelude.{◌≡◌, ◌≤◌, ◌<◌, ◌↔◌, [], None, length, map, sum_by, slice_get};
+ghost use Rattle.std.specs.Option.{option_map, option_map_or};
+ghost use Rattle.cell_types.specs.Groups.{greatest};
+ghost use Rattle.queue_plan.specs.Grouping.{groups_at, IsGroups};
+ghost use Rattle.queue_plan.specs.Lacks.{lacks};
+
+use crate::labelled::Group;
+use crate::lack::{Lack, first_lack};
+use cell_types::Program;
+use sqlite_items::Items;
+use std::marker::Model;
+
+/// The groups of each link by its id: the messages of one label that use the link, in rising order of label.
+#[derive(Debug, Drop)]
+pub struct Groups {
+    links: Items<Items<Group>>,
+}
+
+impl Model for Groups {
+    ghost use Rattle.std.specs.Prelude.{ℕ, List};
+    ghost use Rattle.std.specs.Coded.{codes};
+    ghost use Rattle.queue_plan.specs.Grouping.{IsGroups};
+
+    ghost Value = { List (List (ℕ × List ℕ)) };
+
+    ghost coded = { Prim.hlevel codes };
+
+    ghost view = { λ g. g.links };
+
+    ghost invariant = { λ g. IsGroups g.links };
+}
+
+impl Groups {
+    /// The groups of each link.
+    pub(crate) fn new(links: Items<Items<Group>>) -> Groups
+        requires { IsGroups links }
+        ensures { result ≡ links }
+    {
+        Groups { links }
+    }
+
+    /// How many queues a link needs: the size of its largest group, 0 where it has none.
+    pub fn need(&self, link: u16) -> u16
+        requires { link < length self.now }
+        ensures need { result ≡ greatest (map (λ group. length group.1) (groups_at self.now link)) }
+        ensures kept { IsGroups self.now }
+    {
+        let mut need = 0;
+        for group in self.links.as_slice()[usize::from(link)].as_slice() {
+            need = need.max(group.members().len() as u16);
+        }
+        need
+    }
+
+    /// The first group, by link and then by label, that has more members than its link has queues; `None` exactly where
+    /// all groups fit.
+    ///
+    /// The program is the one whose groups these are.
+    pub fn lack(&self, program: &Program) -> Option<Lack>
+        requires { length self.now ≡ length program.now.queues }
+        ensures lack { result ≡ slice_get (lacks self.now program.now.queues) 0 }
+        ensures kept { IsGroups self.now }
+    {
+        let queues = program.queues();
+        for (link, groups) in self.links.as_slice().iter().enumerate() {
+            let lack = first_lack(groups.as_slice(), link as u16, queues[link]);
+            if lack.is_some() {
+                return lack;
+            }
+        }
+        None
+    }
+
+    /// The label of a link's group at a place, from 0; `None` exactly where the link has no more groups.
+    pub fn label(&self, link: u16, place: u16) -> Option<u16>
+        requires { link < length self.now }
+        ensures label { result ≡ option_map (λ group. group.0) (slice_get (groups_at self.now link) place) }
+        ensures kept { IsGroups self.now }
+    {
+        let groups = self.links.as_slice()[usize::from(link)].as_slice();
+        Some(groups.get(usize::from(place))?.label())
+    }
+
+    /// The members of a link's group at a place, from 0, in rising order; empty exactly where the link has no more groups.
+    pub fn members(&self, link: u16, place: u16) -> &[u16]
+        requires { link < length self.now }
+        ensures members { result.now ≡ option_map_or (λ group. group.1) (slice_get (groups_at self.now link) place) [] }
+        ensures empty { (result.now ≡ []) ↔ (slice_get (groups_at self.now link) place ≡ None) }
+        ensures kept { IsGroups self.now }
+    {
+        let groups = self.links.as_slice()[usize::from(link)].as_slice();
+        match groups.get(usize::from(place)) {
+            Some(group) => group.members(),
+            None => &[],
+        }
+    }
+
+    /// How many groups all links have, at most 524,288.
+    pub fn count(&self) -> u32
+        ensures count { result ≡ sum_by length self.now }
+        ensures most { result ≤ 524288 }
+        ensures kept { IsGroups self.now }
+    {
+        let mut count = 0;
+        for groups in self.links.as_slice() {
+            count += groups.len() as u32;
+        }
+        count
+    }
+}

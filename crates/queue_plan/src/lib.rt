@@ -1,0 +1,14 @@
+//! The messages that share a link's queues: their groups by label, the queues that a link needs, and the first lack of them.
+#![tactic(auto)]
+
+mod grouping;
+mod groups;
+mod labelled;
+mod lack;
+mod laws;
+mod users;
+
+pub use grouping::group;
+pub use groups::Groups;
+pub use lack::Lack;
+pub use laws::groups_by_link;
