@@ -12,4 +12,6 @@ pub use building::{AcceptError, Built, build};
 pub use laws::one_first_refusal;
 
 #[cfg(test)]
+mod label_tests;
+#[cfg(test)]
 mod tests;

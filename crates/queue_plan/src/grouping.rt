@@ -16,7 +16,7 @@ use sys_base::Memory;
 /// The groups of each link of a program, by the labels and the lengths of its messages: the messages of one label and of length
 /// at least 1 whose routes use the link. The only error is want of memory.
 ///
-/// The time is linear in the total length of the routes, but for a logarithm of the number of messages.
+/// The time is linear in the number of links and the total length of the routes, but for a logarithm of the number of messages.
 pub fn group(
     alloc: Global,
     program: &Program,
