@@ -2,3 +2,10 @@ pub mod OneRefusal
 pub mod Refused
 pub mod Near
 pub mod Waits
+pub mod OneFall
+pub mod Judged
+pub mod Words
+pub mod Moves
+pub mod FirstLack
+pub mod Unlabelled
+pub mod FallsInside

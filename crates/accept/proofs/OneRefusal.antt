@@ -1,7 +1,8 @@
 -- A text has at most one first refusal, and none where it is accepted.
-use Rattle.std.proofs.Common.{ℕ, ◌≡◌, List, [], Option, None, Some, inl, inr, true, false, take, slice_get, refl, sym, ap, subst, ◌∙◌}
+use Rattle.std.proofs.Common.{ℕ, ◌≡◌, Bool, List, [], Option, None, Some, inl, inr, true, false, length, take, slice_get, refl, sym, ap, subst, ◌∙◌}
 use Rattle.std.specs.Prelude.{MatchOption, IsSomeAnd, All, map, ◌++◌, ◌∷◌}
-use Rattle.std.proofs.lemmas.Bool.{cases_order}
+use Rattle.std.proofs.lemmas.Bool.{cases_order, cases_Bool}
+use Rattle.std.specs.List.{list_any}
 use Rattle.cell_lexer.specs.declared.error.LexError.{LexError}
 use Rattle.cell_lexer.specs.declared.error.LexError.TheVariants as L
 use Rattle.cell_lexer.specs.declared.token.Token.{Token}
@@ -16,6 +17,7 @@ use Rattle.cell_parser.specs.declared.error.ParseError.TheVariants as P
 use Rattle.cell_tree.specs.declared.source.Source.{Source}
 use Rattle.cell_types.specs.Code.{ProgramCode}
 use Rattle.cell_types.specs.Faults.{faults}
+use Rattle.cell_types.specs.Groups.{bound}
 use Rattle.cell_types.specs.Resolved.{program_of}
 use Rattle.cell_types.specs.declared.error.StaticError.{StaticError}
 use Rattle.comm_sequence.specs.Differing.{all_differing}
@@ -24,14 +26,17 @@ use Rattle.crossing_off.specs.Greedy.{left, fronts}
 use Rattle.crossing_off.specs.Walk.{IsLeastLeft, IsWait, IsEnd, IsWalk}
 use Rattle.crossing_off.specs.declared.answer.Residue.{Residue}
 use Rattle.crossing_off.specs.declared.waits.WaitWalk.{WaitWalk}
+use Rattle.labelling.specs.Falls.{IsFall}
 use Rattle.refusals.specs.declared.refusal.Refusal.{Refusal}
 use Rattle.refusals.specs.declared.refusal.Refusal.TheVariants as R
 use Rattle.accept.specs.declared.building.AcceptError.TheVariants as A
-use Rattle.accept.specs.FirstRefusal.{IsLong, IsMisspelt, IsOver, IsMisplaced, IsFaulty, IsCostly, HasUnlikeArms, IsStuck, IsStalled, Trials, Passed, Try, trials, IsFirstOf, PassesAll, FirstRefusal, Accepts}
+use Rattle.accept.specs.FirstRefusal.{IsLong, IsMisspelt, IsOver, IsMisplaced, IsFaulty, IsCostly, HasUnlikeArms, IsStalled, HasSomeLabels, HasFallingLabels, HasTooFewQueues, IsOverBound, Trials, Passed, Try, program_trials, OfSource, of_source, trials, IsFirstOf, PassesAll, FirstRefusal, Accepts}
+use Rattle.accept.specs.Labelled.{IsLabelled, AreLabels, has_label, lacks_of, members_of}
 use Rattle.accept.specs.Laws.{Laws}
 use Rattle.accept.specs.Reading.{misspelt, misplaced}
 use Rattle.accept.specs.Source.{IsSource}
-use Rattle.accept.specs.Told.{grid_of, static_refusal, wait_line, end_line, walk_lines}
+use Rattle.accept.specs.Told.{grid_of, static_refusal, wait_line, end_line, walk_lines, fall_refusal, lack_refusal}
+use Rattle.accept.proofs.OneFall.{one_fall}
 
 -- ---- the first token over a limit
 
@@ -95,48 +100,54 @@ misplacing text (R.Unexpected line column) h = (line, column, h, refl)
 misplacing text _ h = absurd h
 
 -- The refusal is that of the first `if` whose arms differ.
-abbrev pub Unlikeness : List ℕ → Refusal → Type 0
-Unlikeness text r =
-    (line : ℕ) × ((s : Source) × IsSource text s × (cell : ℕ) × (slice_get (all_differing (program_of s)) 0 ≡ Some (cell, line)))
-    × (r ≡ R.ArmsDiffer line)
+abbrev pub Unlikeness : ProgramCode → Refusal → Type 0
+Unlikeness p r = (line : ℕ) × HasUnlikeArms p (R.ArmsDiffer line) × (r ≡ R.ArmsDiffer line)
 
 -- and so is each one of the trial
-pub unlikeness : (text : List ℕ) (r : Refusal) → HasUnlikeArms text r → Unlikeness text r
-unlikeness text (R.ArmsDiffer line) h = (line, h, refl)
-unlikeness text _ h = absurd h
+pub unlikeness : (p : ProgramCode) (r : Refusal) → HasUnlikeArms p r → Unlikeness p r
+unlikeness p (R.ArmsDiffer line) h = (line, h, refl)
+unlikeness p _ h = absurd h
 
--- The refusal is that of a source that crossing-off doesn't empty.
-abbrev pub Stalling : List ℕ → Refusal → Type 0
-Stalling text r =
-    (n : ℕ) × (walk : List (List ℕ)) × ((s : Source) × IsSource text s × IsStuck (program_of s) n walk) × (r ≡ R.Crossing n walk)
+-- The refusal is that of a program that crossing-off doesn't empty.
+abbrev pub Stalling : ProgramCode → Refusal → Type 0
+Stalling p r = (n : ℕ) × (walk : List (List ℕ)) × IsStalled p (R.Crossing n walk) × (r ≡ R.Crossing n walk)
 
 -- and so is each one of the trial
-pub stalling : (text : List ℕ) (r : Refusal) → IsStalled text r → Stalling text r
-stalling text (R.Crossing n walk) h = (n, walk, h, refl)
-stalling text _ h = absurd h
+pub stalling : (p : ProgramCode) (r : Refusal) → IsStalled p r → Stalling p r
+stalling p (R.Crossing n walk) h = (n, walk, h, refl)
+stalling p _ h = absurd h
+
+-- The refusal is that of a program of which only some messages have labels.
+abbrev pub Lacking : ProgramCode → Refusal → Type 0
+Lacking p r = (name : List ℕ) × HasSomeLabels p (R.SomeLabels name) × (r ≡ R.SomeLabels name)
+
+-- and so is each one of the trial
+pub lacking : (p : ProgramCode) (r : Refusal) → HasSomeLabels p r → Lacking p r
+lacking p (R.SomeLabels name) h = (name, h, refl)
+lacking p _ h = absurd h
 
 -- ---- each trial gives one refusal
 
 -- The trial gives one refusal at most.
-abbrev IsUnique : (List ℕ → Refusal → Type 0) → Type 0
-IsUnique Applies = (text : List ℕ) (r q : Refusal) → Applies text r → Applies text q → r ≡ q
+abbrev IsUnique : {A : Type 0} → (A → Refusal → Type 0) → Type 0
+IsUnique {A} Applies = (a : A) (r q : Refusal) → Applies a r → Applies a q → r ≡ q
 
 -- equal errors hold equal refusals
 same_refusal : (r q : Refusal) → A.Refused r ≡ A.Refused q → r ≡ q
 same_refusal r q e = cc
 
 -- Each of the trials gives one refusal at most.
-abbrev AreUnique : Trials → Type 0
+abbrev AreUnique : {A : Type 0} → Trials A → Type 0
 AreUnique Passed = Unit {0}
 AreUnique (Try Applies rest) = IsUnique Applies × AreUnique rest
 
 -- then their first refusal is one at most
-first_unique : (ts : Trials) → AreUnique ts → IsUnique (IsFirstOf ts)
-first_unique Passed one text r q a b = absurd a
-first_unique (Try Applies rest) one text r q (inl a) (inl b) = one.0 text r q a b
-first_unique (Try Applies rest) one text r q (inl a) (inr b) = absurd (b.0 r a)
-first_unique (Try Applies rest) one text r q (inr a) (inl b) = absurd (a.0 q b)
-first_unique (Try Applies rest) one text r q (inr a) (inr b) = first_unique rest one.1 text r q a.1 b.1
+first_unique : {A : Type 0} (ts : Trials A) → AreUnique ts → IsUnique (IsFirstOf ts)
+first_unique Passed one a r q h k = absurd h
+first_unique (Try Applies rest) one a r q (inl h) (inl k) = one.0 a r q h k
+first_unique (Try Applies rest) one a r q (inl h) (inr k) = absurd (k.0 r h)
+first_unique (Try Applies rest) one a r q (inr h) (inl k) = absurd (h.0 q k)
+first_unique (Try Applies rest) one a r q (inr h) (inr k) = first_unique rest one.1 a r q h.1 k.1
 
 -- a text is too long in one way
 long_unique : IsUnique IsLong
@@ -144,7 +155,11 @@ long_unique text r q h k = h.1 ∙ sym k.1
 
 -- cells cost too much in one way
 costly_unique : IsUnique IsCostly
-costly_unique text r q h k = h.1 ∙ sym k.1
+costly_unique p r q h k = h.1 ∙ sym k.1
+
+-- a test isn't both
+true_false : ◌≡◌ {A = Bool} true false → ⊥
+true_false e = cc
 
 -- nothing is no value
 pub none_some : {X : Type 0} (x : X) → ◌≡◌ {A = Option X} None (Some x) → ⊥
@@ -165,6 +180,31 @@ same_fault s e f r q x y told told_f =
 same_if : (p : ProgramCode) (c d l m : ℕ) → slice_get (all_differing p) 0 ≡ Some (c, l) → slice_get (all_differing p) 0 ≡ Some (d, m)
     → l ≡ m
 same_if p c d l m x y = let same : ◌≡◌ {A = ℕ × ℕ} (c, l) (d, m) = same_some (c, l) (d, m) (sym x ∙ y) in ap (λ (at : ℕ × ℕ). at.1) same
+
+-- arms differ first on one line
+unlike_unique : IsUnique HasUnlikeArms
+unlike_unique p r q h k =
+    let (l, (c, at), e) = unlikeness p r h in
+    let (m, (d, there), f) = unlikeness p q k in
+    e ∙ ap (λ n. R.ArmsDiffer n) (same_if p c d l m at there) ∙ sym f
+
+-- the first message without a label is one
+lacking_unique : IsUnique HasSomeLabels
+lacking_unique p r q h k =
+    let (a, (_, first), e) = lacking p r h in
+    let (b, (_, other), f) = lacking p q k in
+    e ∙ ap (λ n. R.SomeLabels n) (same_some a b (sym first ∙ other)) ∙ sym f
+
+-- what is there for each of two lists is one list
+same_somes : {A : Type 0} (xs ys : List A) → map (λ x. Some x) xs ≡ map (λ y. Some y) ys → xs ≡ ys
+same_somes [] [] e = refl
+same_somes [] (y ∷ ys) e = absurd (cc)
+same_somes (x ∷ xs) [] e = absurd (cc)
+same_somes (x ∷ xs) (y ∷ ys) e =
+    let first : x ≡ y = cc in
+    let rest : map (λ x. Some x) xs ≡ map (λ y. Some y) ys = cc in
+    let tail : xs ≡ ys = same_somes xs ys rest in
+    cc
 
 -- a walk is one of each residue with the same first operations
 walk_over : (s : Sequences) (a b : Residue) (w : WaitWalk) → a.fronts.items ≡ b.fronts.items → IsWalk s a w → IsWalk s b w
@@ -228,17 +268,11 @@ module _ (laws : Laws) where
       let moved = subst (λ u. (slice_get (faults u) 0 ≡ Some e) × (static_refusal (grid_of u) e ≡ Some r)) (one_source text s t is it) (first, told) in
       same_fault t e f r q moved.0 first_f moved.1 told_f
 
-  -- arms differ first on one line
-  unlike_unique : IsUnique HasUnlikeArms
-  unlike_unique text r q h k =
-      let (l, (s, is, c, at), e) = unlikeness text r h in
-      let (m, (t, it, d, there), f) = unlikeness text q k in
-      let moved = subst (λ u. slice_get (all_differing (program_of u)) 0 ≡ Some (c, l)) (one_source text s t is it) at in
-      e ∙ ap (λ n. R.ArmsDiffer n) (same_if (program_of t) c d l m moved there) ∙ sym f
-
   -- a program is stuck in one way
-  stuck_unique : (p : ProgramCode) (m n : ℕ) (v w : List (List ℕ)) → IsStuck p m v → IsStuck p n w → R.Crossing m v ≡ R.Crossing n w
-  stuck_unique p m n v w (a, ha, la, wa, iwa, ea) (b, hb, lb, wb, iwb, eb) =
+  stalled_unique : IsUnique IsStalled
+  stalled_unique p r q h k =
+      let (m, v, (a, ha, la, wa, iwa, ea), er) = stalling p r h in
+      let (n, w, (b, hb, lb, wb, iwb, eb), eq) = stalling p q k in
       let s : Sequences = sequences_of p in
       let x = ha.is_residue in
       let y = hb.is_residue in
@@ -247,26 +281,59 @@ module _ (laws : Laws) where
       let firsts : a.fronts.items ≡ b.fronts.items = x.fronts_are ∙ ap (fronts s) order ∙ sym y.fronts_are in
       let walks = laws.walk s b wa wb (walk_over s a b wa firsts iwa) iwb in
       let lines : v ≡ w = ea ∙ same_lines p wa wb walks.0 walks.1 ∙ sym eb in
-      λ i. R.Crossing (lefts i) (lines i)
+      er ∙ (λ i. R.Crossing (lefts i) (lines i)) ∙ sym eq
 
-  -- a source stalls in one way
-  stalled_unique : IsUnique IsStalled
-  stalled_unique text r q h k =
-      let (m, v, (s, is, x), e) = stalling text r h in
-      let (n, w, (t, it, y), f) = stalling text q k in
-      e ∙ stuck_unique (program_of t) m n v w (subst (λ u. IsStuck (program_of u) m v) (one_source text s t is it) x) y ∙ sym f
+  -- a program has one list of labels at most
+  pub one_labelling : (p : ProgramCode) (a b : List ℕ) → AreLabels p a → AreLabels p b → a ≡ b
+  one_labelling p a b h k = elim (cases_Bool (list_any has_label p.messages)) as (λ _. a ≡ b) [
+    | inl some ↦ same_somes a b (sym (h.given some) ∙ k.given some)
+    | inr none ↦
+        let never = λ (some : IsLabelled p). true_false (sym some ∙ none) in
+        laws.proposal (sequences_of p).lists (length p.messages) a b (h.proposed never) (k.proposed never)
+  ]
+
+  -- labels fall first in one way
+  falling_unique : IsUnique HasFallingLabels
+  falling_unique p r q (a, ha, f, is, e) (b, hb, g, it, k) =
+      let same : a ≡ b = one_labelling p a b ha hb in
+      let falls : f ≡ g = one_fall (sequences_of p).lists b f g (subst (λ ls. IsFall (sequences_of p).lists ls f) same is) it in
+      e ∙ ap (λ ls. fall_refusal p ls f) same ∙ ap (fall_refusal p b) falls ∙ sym k
+
+  -- queues are first too few in one way
+  few_unique : IsUnique HasTooFewQueues
+  few_unique p r q (a, ha, f, is, e) (b, hb, g, it, k) =
+      let same : a ≡ b = one_labelling p a b ha hb in
+      let lack : f ≡ g = same_some f g (sym is ∙ ap (λ ls. slice_get (lacks_of p ls) 0) same ∙ it) in
+      e ∙ ap (λ ls. lack_refusal p f (members_of p ls f.link f.label)) same
+      ∙ ap (λ l. lack_refusal p l (members_of p b l.link l.label)) lack ∙ sym k
+
+  -- the bound is one
+  bound_unique : IsUnique IsOverBound
+  bound_unique p r q (a, ha, over, e) (b, hb, above, k) =
+      e ∙ ap (λ ls. R.Bound (bound p ls)) (one_labelling p a b ha hb) ∙ sym k
+
+  -- a text has one source, so it has one refusal of each trial of programs
+  source_unique : (ts : Trials ProgramCode) → AreUnique ts → AreUnique (of_source ts)
+  source_unique Passed one = tt
+  source_unique (Try Applies rest) one = (unique, source_unique rest one.1)
+    where
+      unique : IsUnique (OfSource Applies)
+      unique text r q (s, is, h) (t, it, k) =
+          one.0 (program_of t) r q (subst (λ u. Applies (program_of u) r) (one_source text s t is it) h) k
 
   -- a text has one first refusal at most
   pub one_refusal : (text : List ℕ) (r q : Refusal) → FirstRefusal text r → FirstRefusal text q → r ≡ q
   one_refusal =
+      let of_programs : AreUnique program_trials =
+      (costly_unique, (unlike_unique, (stalled_unique, (lacking_unique, (falling_unique, (few_unique, (bound_unique, tt))))))) in
       first_unique trials
-      (long_unique, (misspelt_unique, (over_unique, (misplaced_unique, (faulty_unique, (costly_unique, (unlike_unique, (stalled_unique, tt))))))))
+      (long_unique, (misspelt_unique, (over_unique, (misplaced_unique, (faulty_unique, source_unique program_trials of_programs)))))
 
 -- where no trial applies, none is the first that applies
-accepted_of : (ts : Trials) (text : List ℕ) (r : Refusal) → PassesAll ts text → IsFirstOf ts text r → ⊥
-accepted_of Passed text r p h = h
-accepted_of (Try Applies rest) text r p (inl a) = p.0 r a
-accepted_of (Try Applies rest) text r p (inr a) = accepted_of rest text r p.1 a.1
+accepted_of : {A : Type 0} (ts : Trials A) (a : A) (r : Refusal) → PassesAll ts a → IsFirstOf ts a r → ⊥
+accepted_of Passed a r p h = h
+accepted_of (Try Applies rest) a r p (inl h) = p.0 r h
+accepted_of (Try Applies rest) a r p (inr h) = accepted_of rest a r p.1 h.1
 
 -- a text that is accepted has no refusal
 pub no_refusal : (text : List ℕ) (r : Refusal) → Accepts text → FirstRefusal text r → ⊥

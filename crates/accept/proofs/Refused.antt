@@ -1,6 +1,6 @@
 -- The first refusal of a text, and what there is of a text that has none.
-use Rattle.std.proofs.Common.{ℕ, ◌≡◌, ◌<◌, ◌≤◌, ◌⊎◌, List, [], Option, Some, None, inl, inr, length, slice_get, refl, sym, subst, Result, Ok, Err, is_none, false, arith}
-use Rattle.std.specs.Prelude.{IfOk, IfErr}
+use Rattle.std.proofs.Common.{ℕ, ◌≡◌, ◌<◌, ◌≤◌, ◌⊎◌, List, [], Some, inl, inr, length, slice_get, refl, sym, ap, subst, ◌∙◌, Result, Ok, Err, arith}
+use Rattle.std.specs.Prelude.{IfOk, IfErr, IsTrue}
 use Rattle.std.specs.Result.{IsErrAnd}
 use Rattle.cell_lexer.specs.declared.error.LexError.{LexError}
 use Rattle.cell_lexer.specs.declared.error.LexError.TheVariants as L
@@ -15,34 +15,68 @@ use Rattle.cell_parser.specs.declared.error.ParseError.{ParseError}
 use Rattle.cell_parser.specs.declared.error.ParseError.TheVariants as P
 use Rattle.cell_tree.specs.declared.source.Source.{Source}
 use Rattle.cell_types.specs.Code.{ProgramCode}
-use Rattle.cell_types.specs.Cost.{cells_cost}
 use Rattle.cell_types.specs.Faults.{faults}
 use Rattle.cell_types.specs.Resolved.{program_of}
 use Rattle.cell_types.specs.Typed.{Contents, plain}
-use Rattle.comm_sequence.specs.Differing.{all_differing}
-use Rattle.comm_sequence.specs.CrossingOrder.{IsCrossingOrder}
-use Rattle.comm_sequence.specs.Limit.{IsLimited}
-use Rattle.comm_sequence.specs.Sequences.{sequences_of}
+use Rattle.refusals.specs.Texts.{is_kind_known}
 use Rattle.refusals.specs.declared.refusal.Refusal.{Refusal}
 use Rattle.refusals.specs.declared.refusal.Refusal.TheVariants as R
 use Rattle.accept.specs.declared.building.AcceptError.{AcceptError}
 use Rattle.accept.specs.declared.building.Built.{Built}
 use Rattle.accept.specs.declared.building.AcceptError.TheVariants as A
-use Rattle.accept.specs.Built.{IsBuilt, IsRefused}
-use Rattle.accept.specs.FirstRefusal.{IsLong, IsMisspelt, IsOver, IsMisplaced, IsFaulty, IsCostly, HasUnlikeArms, IsStalled, Trials, Passed, Try, IsFirstOf, FirstRefusal, Accepts}
+use Rattle.accept.specs.Built.{IsBuilt, IsJudged, IsRefused}
+use Rattle.accept.specs.FirstRefusal.{IsLong, IsMisspelt, IsOver, IsMisplaced, IsFaulty, Trials, Passed, Try, program_trials, OfSource, of_source, IsFirstOf, PassesAll, FirstRefusal}
 use Rattle.accept.specs.Laws.{Laws}
 use Rattle.accept.specs.Reading.{misspelt, misplaced}
 use Rattle.accept.specs.Source.{IsSource}
-use Rattle.accept.specs.Answers.{IsFaultTold, IsCrossedOff, IsStall, IsProgramRefusal, IsProgramRefused}
-use Rattle.accept.proofs.OneRefusal.{misspelling, excess, misplacing, unlikeness, stalling, none_some, one_source}
-
--- the trials behind those of the text's tokens
-abbrev static_trials : Trials
-static_trials = Try IsFaulty (Try IsCostly (Try HasUnlikeArms (Try IsStalled Passed)))
+use Rattle.accept.specs.Answers.{IsFaultTold, IsFound}
+use Rattle.accept.proofs.OneRefusal.{misspelling, excess, misplacing, unlikeness, stalling, lacking, none_some, one_source}
 
 -- the trial never applies
-abbrev Never : (List ℕ → Refusal → Type 0) → List ℕ → Type 0
-Never Applies text = (q : Refusal) → Applies text q → ⊥
+abbrev Never : {A : Type 0} → (A → Refusal → Type 0) → A → Type 0
+Never Applies a = (q : Refusal) → Applies a q → ⊥
+
+-- the trials behind those of the text's tokens
+abbrev static_trials : Trials (List ℕ)
+static_trials = Try IsFaulty (of_source program_trials)
+
+-- a refusal of no wrong kind has no kind
+abbrev Known : (ProgramCode → Refusal → Type 0) → Type 0
+Known Applies = (p : ProgramCode) (r : Refusal) → Applies p r → IsTrue (is_kind_known r)
+
+-- All of the trials give refusals of no wrong kind.
+abbrev AreKnown : Trials ProgramCode → Type 0
+AreKnown Passed = Unit {0}
+AreKnown (Try Applies rest) = Known Applies × AreKnown rest
+
+-- so does the first of them that applies
+first_known : (ts : Trials ProgramCode) → AreKnown ts → Known (IsFirstOf ts)
+first_known Passed known p r h = absurd h
+first_known (Try Applies rest) known p r (inl h) = known.0 p r h
+first_known (Try Applies rest) known p r (inr h) = first_known rest known.1 p r h.1
+
+-- and the refusals of programs are such
+program_known : Known (IsFirstOf program_trials)
+program_known =
+    first_known program_trials (
+      (λ p r h. subst (λ q. IsTrue (is_kind_known q)) (sym h.1) refl),
+      (
+        (λ p r h. subst (λ q. IsTrue (is_kind_known q)) (sym (unlikeness p r h).2) refl),
+        (
+          (λ p r h. subst (λ q. IsTrue (is_kind_known q)) (sym (stalling p r h).3) refl),
+          (
+            (λ p r h. subst (λ q. IsTrue (is_kind_known q)) (sym (lacking p r h).2) refl),
+            (
+              (λ p r h. subst (λ q. IsTrue (is_kind_known q)) (sym h.4) refl),
+              (
+                (λ p r h. subst (λ q. IsTrue (is_kind_known q)) (sym h.4) refl),
+                ((λ p r h. subst (λ q. IsTrue (is_kind_known q)) (sym h.3) refl), tt),
+              ),
+            ),
+          ),
+        ),
+      ),
+    )
 
 -- a text of too many bytes is refused first
 pub long_refused : (text : List ℕ) → 1048576 < length text → FirstRefusal text R.LongSource
@@ -115,96 +149,61 @@ module _ (text : List ℕ) (short : length text ≤ 1048576) where
           let moved = subst (λ u. slice_get (faults u) 0 ≡ Some e) (one_source laws text t s it is) first in
           none_some e (subst (λ fs. slice_get fs 0 ≡ Some e) none moved)
 
-      -- a source within the limit of steps isn't too costly
-      not_costly : cells_cost (program_of s) ≤ 4194304 → Never IsCostly text
-      not_costly few q ((t, it, many), same) =
-          let moved : 4194304 < cells_cost (program_of s) =
-          subst (λ u. 4194304 < cells_cost (program_of u)) (one_source laws text t s it is) many in
-          absurd (omega arith)
+      -- what never applies to the program never applies to the text
+      never_of : (Applies : ProgramCode → Refusal → Type 0) → Never Applies (program_of s) → Never (OfSource Applies) text
+      never_of Applies never q (t, it, h) = never q (subst (λ u. Applies (program_of u) q) (one_source laws text t s it is) h)
 
-      -- a source whose arms are alike has no first unlike ones
-      not_unlike : all_differing (program_of s) ≡ [] → Never HasUnlikeArms text
-      not_unlike alike q h =
-          let (line, (t, it, cell, there), same) = unlikeness text q h in
-          let moved = subst (λ u. slice_get (all_differing (program_of u)) 0 ≡ Some (cell, line)) (one_source laws text t s it is) there in
-          none_some (cell, line) (subst (λ ds. slice_get ds 0 ≡ Some (cell, line)) alike moved)
+      -- the first of some trials of the program is that of the text
+      first_of : (ts : Trials ProgramCode) (r : Refusal) → IsFirstOf ts (program_of s) r → IsFirstOf (of_source ts) text r
+      first_of Passed r h = absurd h
+      first_of (Try Applies rest) r (inl h) = inl (s, is, h)
+      first_of (Try Applies rest) r (inr h) = inr (never_of Applies h.0, first_of rest r h.1)
 
-      -- a source with a crossing order isn't stalled
-      not_stalled : (order : List ℕ) → IsCrossingOrder (sequences_of (program_of s)) order → Never IsStalled text
-      not_stalled order crossing q h =
-          let (n, walk, (t, it, stuck), same) = stalling text q h in
-          stuck.1.no_order order
-          (subst (λ u. IsCrossingOrder (sequences_of (program_of u)) order) (one_source laws text s t is it) crossing)
+      -- and if none applies to the program, none does to the text
+      passes_of : (ts : Trials ProgramCode) → PassesAll ts (program_of s) → PassesAll (of_source ts) text
+      passes_of Passed h = tt
+      passes_of (Try Applies rest) h = (never_of Applies h.0, passes_of rest h.1)
 
       -- the first refusal of its program is that of the text
-      pub program_refused : (e : AcceptError) → IsProgramRefused (program_of s) e → IsRefused text e
-      program_refused (A.Refused R.CellSteps) h = (behind_reading R.CellSteps (inr (not_faulty, inl ((s, is, h), refl))), refl)
-      program_refused (A.Refused (R.ArmsDiffer line)) (few, (cell, there)) =
-          (behind_reading (R.ArmsDiffer line) (inr (not_faulty, inr (not_costly few, inl (s, is, cell, there)))), refl)
-      program_refused (A.Refused (R.Crossing left walk)) (few, alike, stuck) =
-          (behind_reading (R.Crossing left walk) (inr (not_faulty, inr (not_costly few, inr (not_unlike alike, inl (s, is, stuck))))), refl)
-      program_refused (A.Refused _) h = absurd h
+      program_refused : (e : AcceptError) → IsFound (IsFirstOf program_trials) (program_of s) e → IsRefused text e
+      program_refused (A.Refused r) h =
+          (behind_reading r (inr (not_faulty, first_of program_trials r h)), program_known (program_of s) r h)
       program_refused A.Memory h = tt
 
-      -- what there is of a source whose program crossing-off empties
-      pub is_built : (program : Contents) (order : List ℕ) → plain program ≡ program_of s → IsCrossedOff (plain program) order
-          → IsBuilt text program order
-      is_built program order same done =
-          let moved : IsCrossedOff (program_of s) order = subst (λ p. IsCrossedOff p order) same done in
-          let accepts : Accepts text = (
-            not_long,
-            (
-              never_misspelt,
-              (
-                never_over,
-                (
-                  not_misplaced,
-                  (
-                    not_faulty,
-                    (
-                      not_costly moved.cost,
-                      (not_unlike moved.alike, (not_stalled order moved.empty.is_order, tt)),
-                    ),
-                  ),
-                ),
-              ),
-            ),
-          ) in
+      -- what is made of its program is made of the text
+      is_built : (b : Built) → plain b.program ≡ program_of s → PassesAll program_trials (plain b.program)
+          → IsJudged (plain b.program) b.order.items b.labels.items b.bound → IsBuilt text b
+      is_built b same passes judged =
+          let moved : PassesAll program_trials (program_of s) = subst (PassesAll program_trials) same passes in
           record {
-            accepts = accepts;
+            accepts = (
+              not_long,
+              (never_misspelt, (never_over, (not_misplaced, (not_faulty, passes_of program_trials moved)))),
+            );
             source = s;
             is = is;
             program_is = same;
-            crossing = done.empty.is_order;
-            crossed = done.empty.rule;
+            judged = judged;
           }
 
-      -- and so is what is answered for its program
+      -- what is answered for its program is answered for the text
       pub answer_built : (program : Contents) (r : Result Built AcceptError) → plain program ≡ program_of s
-          → IfOk r (λ b. b.program ≡ program) → IfOk r (λ b. IsCrossedOff (plain program) b.order.items)
-          → IfOk r (λ b. IsBuilt text b.program b.order.items)
-      answer_built program (Ok b) same whole done =
-          subst (λ p. IsBuilt text p b.order.items) (sym whole) (is_built program b.order.items same done)
-      answer_built program (Err e) same whole done = tt
+          → IfOk r (λ b. b.program ≡ program) → IfOk r (λ b. PassesAll program_trials (plain program))
+          → IfOk r (λ b. IsJudged (plain program) b.order.items b.labels.items b.bound) → IfOk r (IsBuilt text)
+      answer_built program (Ok b) same whole passes judged =
+          is_built b (ap plain whole ∙ same) (subst (λ p. PassesAll program_trials (plain p)) (sym whole) passes)
+          (subst (λ p. IsJudged (plain p) b.order.items b.labels.items b.bound) (sym whole) judged)
+      answer_built program (Err e) same whole passes judged = tt
 
       -- or the first refusal
       pub answer_refused : (program : Contents) (r : Result Built AcceptError) → plain program ≡ program_of s
-          → IfErr r (IsProgramRefused (plain program)) → IfErr r (IsRefused text)
+          → IfErr r (IsFound (IsFirstOf program_trials) (plain program)) → IfErr r (IsRefused text)
       answer_refused program (Ok b) same h = tt
-      answer_refused program (Err e) same h = program_refused e (subst (λ p. IsProgramRefused p e) same h)
+      answer_refused program (Err e) same h =
+          program_refused e (subst (λ p. IsFound (IsFirstOf program_trials) p e) same h)
 
--- an error that is handed on is the first refusal
-pub handed_on : {V : Type 0} (text : List ℕ) (r : Result V AcceptError) (e : AcceptError) → IsErrAnd r (λ x. x ≡ e) → IsRefused text e
-    → IfErr r (IsRefused text)
-handed_on text (Ok v) e h k = tt
-handed_on text (Err x) e h k = subst (IsRefused text) (sym h) k
-
--- a cost that is not above the limit
-pub within_limit : (cost : ℕ) (o : Option ℕ) → IsLimited cost o → is_none o ≡ false → cost ≤ 4194304
-within_limit cost None limited some = cc
-within_limit cost (Some steps) limited some = limited.1
-
--- a stall is the first refusal of a program that is within the limit of steps and whose arms are alike
-pub stall_refused : (p : ProgramCode) (r : Refusal) → cells_cost p ≤ 4194304 → all_differing p ≡ [] → IsStall p r → IsProgramRefusal p r
-stall_refused p (R.Crossing left walk) few alike stuck = (few, alike, stuck)
-stall_refused p _ few alike stuck = absurd stuck
+-- what holds of an error holds where it is handed on
+pub handed_on : {V : Type 0} (P : AcceptError → Type 0) (r : Result V AcceptError) (e : AcceptError) → IsErrAnd r (λ x. x ≡ e) → P e
+    → IfErr r P
+handed_on P (Ok v) e h k = tt
+handed_on P (Err x) e h k = subst P (sym h) k

@@ -23,7 +23,7 @@ use Rattle.crossing_off.specs.declared.waits.WalkEnd.TheVariants.{Again, Nothing
 use Rattle.accept.specs.Answers.{IsWaitOf, IsEndOf}
 
 -- what holds of all of a list holds of the one at a place
-all_at : {A : Type 0} (P : A → Type 0) (xs : List A) (k : ℕ) (x : A) → All P xs → slice_get xs k ≡ Some x → P x
+pub all_at : {A : Type 0} (P : A → Type 0) (xs : List A) (k : ℕ) (x : A) → All P xs → slice_get xs k ≡ Some x → P x
 all_at P xs k x all at = subst P (get_or_from_slice_get xs k x x at) (all k x (slice_get_within xs k x at))
 
 -- A message has this index, and this cell of the grid is one of its ends.

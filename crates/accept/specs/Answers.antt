@@ -1,25 +1,26 @@
 -- What the parts of acceptance answer, each of a source or a program.
-use Rattle.std.specs.Prelude.{ℕ, ◌≡◌, ◌<◌, ◌≤◌, ◌*◌, ◌/◌, List, [], length, slice_get, Some, IsTrue}
+use Rattle.std.specs.Prelude.{ℕ, ◌≡◌, ◌<◌, ◌≤◌, ◌*◌, ◌/◌, List, [], find, length, nat_eq, slice_get, All, Some, IsTrue}
+use Rattle.std.specs.Option.{option_map_or}
 use Rattle.sys_base.specs.Grid.{cell_count}
 use Rattle.cell_tree.specs.declared.source.Source.{Source}
 use Rattle.cell_types.specs.Code.{ProgramCode}
-use Rattle.cell_types.specs.Cost.{cells_cost}
 use Rattle.cell_types.specs.Faults.{faults}
 use Rattle.cell_types.specs.declared.error.RouteFault.TheVariants as P
 use Rattle.cell_types.specs.declared.error.StaticError.{StaticError}
 use Rattle.cell_types.specs.declared.error.StaticError.TheVariants as S
 use Rattle.cell_types.specs.declared.error.What.{What}
 use Rattle.cell_types.specs.declared.error.What.TheVariants as T
-use Rattle.comm_sequence.specs.Differing.{all_differing}
-use Rattle.comm_sequence.specs.Sequences.{sequences_of, message_of}
-use Rattle.crossing_off.specs.Answer.{IsEmpty}
+use Rattle.cell_types.specs.declared.program.Message.{Message}
+use Rattle.comm_sequence.specs.Sequences.{message_of}
 use Rattle.crossing_off.specs.declared.waits.Wait.{Wait}
 use Rattle.crossing_off.specs.declared.waits.WalkEnd.{WalkEnd}
 use Rattle.crossing_off.specs.declared.waits.WalkEnd.TheVariants.{Again, NothingLeft}
+use Rattle.labelling.specs.declared.falls.Fall.{Fall}
+use Rattle.queue_plan.specs.Grouping.{groups_at}
 use Rattle.refusals.specs.Texts.{is_kind_known}
 use Rattle.refusals.specs.declared.refusal.Refusal.{Refusal}
 use Rattle.refusals.specs.declared.refusal.Refusal.TheVariants as R
-use Rattle.accept.specs.FirstRefusal.{IsStuck}
+use Rattle.accept.specs.Labelled.{first_unlabelled}
 use Rattle.accept.specs.Told.{grid_of, static_refusal}
 use Rattle.accept.specs.declared.building.AcceptError.{AcceptError}
 use Rattle.accept.specs.declared.building.AcceptError.TheVariants as A
@@ -60,28 +61,27 @@ abbrev pub IsEndOf : ProgramCode → WalkEnd → Type 0
 IsEndOf program (Again cell) = cell < cell_count program.grid
 IsEndOf program (NothingLeft cell) = cell < cell_count program.grid
 
--- The refusal is that of a program that crossing-off does not empty.
-abbrev pub IsStall : ProgramCode → Refusal → Type 0
-IsStall program (R.Crossing left lines) = IsStuck program left lines
-IsStall program _ = ⊥
+-- The error is a refusal that applies to the program, or memory ran out.
+abbrev pub IsFound : (ProgramCode → Refusal → Type 0) → ProgramCode → AcceptError → Type 0
+IsFound Applies program (A.Refused r) = Applies program r
+IsFound Applies program A.Memory = Unit {0}
 
--- The program's cells keep the limit of steps, its arms communicate alike, and the list is that of the greedy rule and a
--- crossing order.
-pub record IsCrossedOff (program : ProgramCode) (order : List ℕ) : Type 0 where
-  pub cost : cells_cost program ≤ 4194304
-  pub alike : all_differing program ≡ []
-  pub empty : IsEmpty (sequences_of program) order
+-- The name is that of the first message without a label, or memory ran out.
+abbrev pub IsUnlabelled : List Message → AcceptError → Type 0
+IsUnlabelled messages (A.Refused (R.SomeLabels name)) = first_unlabelled messages ≡ Some name
+IsUnlabelled messages (A.Refused _) = ⊥
+IsUnlabelled messages A.Memory = Unit {0}
 
--- The refusal is the first one of a program without static faults: E60, or else E15, or else E30.
-abbrev pub IsProgramRefusal : ProgramCode → Refusal → Type 0
-IsProgramRefusal program R.CellSteps = 4194304 < cells_cost program
-IsProgramRefusal program (R.ArmsDiffer line) =
-    (cells_cost program ≤ 4194304) × ((cell : ℕ) × (slice_get (all_differing program) 0 ≡ Some (cell, line)))
-IsProgramRefusal program (R.Crossing left lines) =
-    (cells_cost program ≤ 4194304) × (all_differing program ≡ []) × IsStuck program left lines
-IsProgramRefusal program _ = ⊥
+-- The fall is at a cell of the grid, between two of the program's messages.
+pub record IsFallOf (program : ProgramCode) (fall : Fall) : Type 0 where
+  pub cell : fall.cell < cell_count program.grid
+  pub before : fall.before < length program.messages
+  pub after : fall.after < length program.messages
 
--- The error is that refusal, or memory ran out.
-abbrev pub IsProgramRefused : ProgramCode → AcceptError → Type 0
-IsProgramRefused program (A.Refused r) = IsProgramRefusal program r
-IsProgramRefused program A.Memory = Unit {0}
+-- the members of the first group with this label on a link, none where it has no such group
+abbrev pub members_at : List (List (ℕ × List ℕ)) → ℕ → ℕ → List ℕ
+members_at links link label = option_map_or (λ (g : ℕ × List ℕ). g.1) (find (λ (g : ℕ × List ℕ). nat_eq g.0 label) (groups_at links link)) []
+
+-- All members of the groups of a link are among so many messages.
+abbrev pub AreKnown : List (List (ℕ × List ℕ)) → ℕ → ℕ → Type 0
+AreKnown links link messages = All (λ (g : ℕ × List ℕ). All (λ message. message < messages) g.1) (groups_at links link)

@@ -1,25 +1,40 @@
 -- What there is of a text that is accepted.
-use Rattle.std.specs.Prelude.{ℕ, ◌≡◌, List, IsTrue}
+use Rattle.std.specs.Prelude.{ℕ, ◌≡◌, ◌≤◌, List, [], IsTrue}
 use Rattle.cell_tree.specs.declared.source.Source.{Source}
+use Rattle.cell_types.specs.Code.{ProgramCode}
+use Rattle.cell_types.specs.Groups.{bound}
 use Rattle.cell_types.specs.Resolved.{program_of}
-use Rattle.cell_types.specs.Typed.{Contents, plain}
+use Rattle.cell_types.specs.Typed.{plain}
 use Rattle.comm_sequence.specs.CrossingOrder.{IsCrossingOrder}
+use Rattle.comm_sequence.specs.Labels.{IsConsistent}
 use Rattle.comm_sequence.specs.Sequences.{sequences_of}
 use Rattle.crossing_off.specs.Greedy.{IsCrossed}
 use Rattle.refusals.specs.Texts.{is_kind_known}
 use Rattle.accept.specs.FirstRefusal.{Accepts, FirstRefusal}
+use Rattle.accept.specs.Labelled.{AreLabels, lacks_of}
 use Rattle.accept.specs.Source.{IsSource}
 use Rattle.accept.specs.declared.building.AcceptError.{AcceptError}
 use Rattle.accept.specs.declared.building.AcceptError.TheVariants as A
+use Rattle.accept.specs.declared.building.Built.{Built}
 
--- The text has no refusal, the program is that of its source, and the list is that of the greedy rule and a crossing order of the program.
-pub record IsBuilt (text : List ℕ) (program : Contents) (order : List ℕ) : Type 0 where
+-- The order is that of the greedy rule and a crossing order of the program, the labels are its messages' and never fall, no link
+-- lacks queues, and the steps are the bound and within the limit.
+pub record IsJudged (program : ProgramCode) (order labels : List ℕ) (steps : ℕ) : Type 0 where
+  pub crossing : IsCrossingOrder (sequences_of program) order
+  pub crossed : IsCrossed (sequences_of program) order
+  pub labels_are : AreLabels program labels
+  pub consistent : IsConsistent (sequences_of program).lists labels
+  pub enough : lacks_of program labels ≡ []
+  pub bound_is : steps ≡ bound program labels
+  pub within : steps ≤ 4194304
+
+-- The text has no refusal, and this is what is made of it: the program of its source, its order, its labels and its bound.
+pub record IsBuilt (text : List ℕ) (built : Built) : Type 0 where
   pub accepts : Accepts text
   pub source : Source
   pub is : IsSource text source
-  pub program_is : plain program ≡ program_of source
-  pub crossing : IsCrossingOrder (sequences_of (plain program)) order
-  pub crossed : IsCrossed (sequences_of (plain program)) order
+  pub program_is : plain built.program ≡ program_of source
+  pub judged : IsJudged (plain built.program) built.order.items built.labels.items built.bound
 
 -- The error is the first refusal of the text, or memory ran out.
 abbrev pub IsRefused : List ℕ → AcceptError → Type 0

@@ -11,6 +11,7 @@ use Rattle.cell_tree.specs.declared.source.Source.{Source}
 use Rattle.cell_types.specs.Code.{ProgramCode}
 use Rattle.cell_types.specs.Cost.{cells_cost}
 use Rattle.cell_types.specs.Faults.{faults}
+use Rattle.cell_types.specs.Groups.{bound}
 use Rattle.cell_types.specs.Resolved.{program_of}
 use Rattle.cell_types.specs.declared.error.StaticError.{StaticError}
 use Rattle.comm_sequence.specs.Differing.{all_differing}
@@ -19,10 +20,14 @@ use Rattle.crossing_off.specs.Answer.{IsLeft}
 use Rattle.crossing_off.specs.Walk.{IsWalk}
 use Rattle.crossing_off.specs.declared.answer.Residue.{Residue}
 use Rattle.crossing_off.specs.declared.waits.WaitWalk.{WaitWalk}
+use Rattle.labelling.specs.Falls.{IsFall}
+use Rattle.labelling.specs.declared.falls.Fall.{Fall}
+use Rattle.queue_plan.specs.declared.lack.Lack.{Lack}
 use Rattle.refusals.specs.declared.refusal.Refusal.{Refusal}
 use Rattle.refusals.specs.declared.refusal.Refusal.TheVariants as R
+use Rattle.accept.specs.Labelled.{IsLabelled, AreLabels, first_unlabelled, lacks_of, members_of}
 use Rattle.accept.specs.Source.{IsSource}
-use Rattle.accept.specs.Told.{grid_of, static_refusal, walk_lines}
+use Rattle.accept.specs.Told.{grid_of, static_refusal, walk_lines, fall_refusal, lack_refusal}
 
 -- E05: the text is longer than a source may be.
 abbrev pub IsLong : List ℕ → Refusal → Type 0
@@ -52,52 +57,88 @@ IsFaulty text r =
     (s : Source) × IsSource text s × (e : StaticError) × (slice_get (faults s) 0 ≡ Some e) × (static_refusal (grid_of s) e ≡ Some r)
 
 -- E60: the cells take more steps than are allowed.
-abbrev pub IsCostly : List ℕ → Refusal → Type 0
-IsCostly text r = ((s : Source) × IsSource text s × (4194304 < cells_cost (program_of s))) × (r ≡ R.CellSteps)
+abbrev pub IsCostly : ProgramCode → Refusal → Type 0
+IsCostly program r = (4194304 < cells_cost program) × (r ≡ R.CellSteps)
 
 -- E15: the first `if` whose arms communicate differently.
-abbrev pub HasUnlikeArms : List ℕ → Refusal → Type 0
-HasUnlikeArms text (R.ArmsDiffer line) =
-    (s : Source) × IsSource text s × (cell : ℕ) × (slice_get (all_differing (program_of s)) 0 ≡ Some (cell, line))
-HasUnlikeArms text _ = ⊥
+abbrev pub HasUnlikeArms : ProgramCode → Refusal → Type 0
+HasUnlikeArms program (R.ArmsDiffer line) = (cell : ℕ) × (slice_get (all_differing program) 0 ≡ Some (cell, line))
+HasUnlikeArms program _ = ⊥
 
--- The greedy rule leaves so many operations of the program, no crossing order exists, and these lines tell the walk.
-abbrev pub IsStuck : ProgramCode → ℕ → List (List ℕ) → Type 0
-IsStuck program left lines =
+-- E30: the greedy rule leaves so many operations, no crossing order exists, and these lines tell the walk.
+abbrev pub IsStalled : ProgramCode → Refusal → Type 0
+IsStalled program (R.Crossing left lines) =
     (residue : Residue) × IsLeft (sequences_of program) residue × (left ≡ residue.left)
     × (walk : WaitWalk) × IsWalk (sequences_of program) residue walk × (lines ≡ walk_lines program walk)
+IsStalled program _ = ⊥
 
--- E30: crossing-off leaves something.
-abbrev pub IsStalled : List ℕ → Refusal → Type 0
-IsStalled text (R.Crossing left walk) = (s : Source) × IsSource text s × IsStuck (program_of s) left walk
-IsStalled text _ = ⊥
+-- E41: the first message without a label, where another one has a label.
+abbrev pub HasSomeLabels : ProgramCode → Refusal → Type 0
+HasSomeLabels program (R.SomeLabels name) = IsLabelled program × (first_unlabelled program.messages ≡ Some name)
+HasSomeLabels program _ = ⊥
 
--- refusals in the order in which they are tried
-pub data Trials : Type 1 where
-  Passed : Trials
-  Try : (Applies : List ℕ → Refusal → Type 0) → (rest : Trials) → Trials
+-- E40: the first fall of a label.
+abbrev pub HasFallingLabels : ProgramCode → Refusal → Type 0
+HasFallingLabels program r =
+    (labels : List ℕ) × AreLabels program labels
+    × (fall : Fall) × IsFall (sequences_of program).lists labels fall × (r ≡ fall_refusal program labels fall)
 
--- the refusals of a source
-abbrev pub trials : Trials
+-- E50: the first group of messages with one label that has more members than its link has queues.
+abbrev pub HasTooFewQueues : ProgramCode → Refusal → Type 0
+HasTooFewQueues program r =
+    (labels : List ℕ) × AreLabels program labels
+    × (lack : Lack) × (slice_get (lacks_of program labels) 0 ≡ Some lack)
+    × (r ≡ lack_refusal program lack (members_of program labels lack.link lack.label))
+
+-- E61: the bound on the steps is more than is allowed.
+abbrev pub IsOverBound : ProgramCode → Refusal → Type 0
+IsOverBound program r =
+    (labels : List ℕ) × AreLabels program labels × (4194304 < bound program labels) × (r ≡ R.Bound (bound program labels))
+
+-- refusals of texts, or of programs, in the order in which they are tried
+pub data Trials (A : Type 0) : Type 1 where
+  Passed : Trials A
+  Try : (Applies : A → Refusal → Type 0) → (rest : Trials A) → Trials A
+
+-- the refusals of a program
+abbrev pub program_trials : Trials ProgramCode
+program_trials =
+    Try IsCostly (
+    Try HasUnlikeArms (
+    Try IsStalled (
+    Try HasSomeLabels (
+    Try HasFallingLabels (
+    Try HasTooFewQueues (
+    Try IsOverBound Passed))))))
+
+-- The refusal applies to the program of the text's source.
+abbrev pub OfSource : (ProgramCode → Refusal → Type 0) → List ℕ → Refusal → Type 0
+OfSource Applies text r = (s : Source) × IsSource text s × Applies (program_of s) r
+
+-- refusals of a program as those of its text
+abbrev pub of_source : Trials ProgramCode → Trials (List ℕ)
+of_source Passed = Passed
+of_source (Try Applies rest) = Try (OfSource Applies) (of_source rest)
+
+-- the refusals of a text: of what it is, of its source, and of the program of its source
+abbrev pub trials : Trials (List ℕ)
 trials =
     Try IsLong (
     Try IsMisspelt (
     Try IsOver (
     Try IsMisplaced (
     Try IsFaulty (
-    Try IsCostly (
-    Try HasUnlikeArms (
-    Try IsStalled Passed)))))))
+    of_source program_trials)))))
 
--- The first of the trials that applies to the text gives this refusal.
-abbrev pub IsFirstOf : Trials → List ℕ → Refusal → Type 0
-IsFirstOf Passed text r = ⊥
-IsFirstOf (Try Applies rest) text r = Applies text r ⊎ (((q : Refusal) → Applies text q → ⊥) × IsFirstOf rest text r)
+-- The first of the trials that applies gives this refusal.
+abbrev pub IsFirstOf : {A : Type 0} → Trials A → A → Refusal → Type 0
+IsFirstOf Passed a r = ⊥
+IsFirstOf (Try Applies rest) a r = Applies a r ⊎ (((q : Refusal) → Applies a q → ⊥) × IsFirstOf rest a r)
 
--- None of the trials applies to the text.
-abbrev pub PassesAll : Trials → List ℕ → Type 0
-PassesAll Passed text = Unit {0}
-PassesAll (Try Applies rest) text = ((q : Refusal) → Applies text q → ⊥) × PassesAll rest text
+-- None of the trials applies.
+abbrev pub PassesAll : {A : Type 0} → Trials A → A → Type 0
+PassesAll Passed a = Unit {0}
+PassesAll (Try Applies rest) a = ((q : Refusal) → Applies a q → ⊥) × PassesAll rest a
 
 -- The first refusal of the text is this one.
 abbrev pub FirstRefusal : List ℕ → Refusal → Type 0

@@ -1,5 +1,6 @@
 pub mod Source
 pub mod Told
+pub mod Labelled
 pub mod FirstRefusal
 pub mod Built
 pub mod Reading

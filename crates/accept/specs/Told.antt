@@ -1,5 +1,5 @@
--- How static faults and walks are told: cells, links and messages by their names.
-use Rattle.std.specs.Prelude.{ℕ, ◌/◌, ◌%◌, ◌==◌, Bool, true, false, if◌then◌else◌, List, [], ◌∷◌, ◌++◌, map, slice_get, Option, Some, None}
+-- How refusals are told: cells, links and messages by their names.
+use Rattle.std.specs.Prelude.{ℕ, ◌/◌, ◌%◌, ◌==◌, Bool, true, false, if◌then◌else◌, List, [], ◌∷◌, ◌++◌, map, slice_get, slice_index, Option, Some, None}
 use Rattle.std.specs.Option.{option_map_or}
 use Rattle.sys_base.specs.Grid.{Extent, row_of, col_of}
 use Rattle.sys_base.specs.declared.kinds.Dir.{Dir}
@@ -21,6 +21,8 @@ use Rattle.crossing_off.specs.declared.waits.Wait.{Wait}
 use Rattle.crossing_off.specs.declared.waits.WaitWalk.{WaitWalk}
 use Rattle.crossing_off.specs.declared.waits.WalkEnd.{WalkEnd}
 use Rattle.crossing_off.specs.declared.waits.WalkEnd.TheVariants.{Again, NothingLeft}
+use Rattle.labelling.specs.declared.falls.Fall.{Fall}
+use Rattle.queue_plan.specs.declared.lack.Lack.{Lack}
 use Rattle.refusals.specs.Explanations.{wait_text, again_text, nothing_left_text}
 use Rattle.refusals.specs.Texts.{cell_text, link_text}
 use Rattle.refusals.specs.declared.refusal.Refusal.{Refusal}
@@ -99,3 +101,15 @@ end_line program (NothingLeft cell) = nothing_left_text (row_of program.grid cel
 -- the lines of a walk: one for each wait, and that of the end
 abbrev pub walk_lines : ProgramCode → WaitWalk → List (List ℕ)
 walk_lines program walk = map (wait_line program) walk.waits.items ++ end_line program walk.end ∷ []
+
+-- the refusal of a fall of these labels
+abbrev pub fall_refusal : ProgramCode → List ℕ → Fall → Refusal
+fall_refusal program labels fall =
+    R.Fall (row_of program.grid fall.cell) (col_of program.grid fall.cell) fall.at
+    (message_name program fall.before) (slice_index labels fall.before)
+    (message_name program fall.after) (slice_index labels fall.after)
+
+-- the refusal of a link that lacks queues for a group with these members
+abbrev pub lack_refusal : ProgramCode → Lack → List ℕ → Refusal
+lack_refusal program lack members =
+    R.TooFew (link_name program.grid lack.link) lack.label lack.need lack.has (map (message_name program) members)

@@ -3,29 +3,29 @@ ghost use Rattle.cell_tree.specs.Printable.{IsPrintable};
 ghost use Rattle.cell_types.specs.Faults.{faults};
 ghost use Rattle.cell_types.specs.Resolved.{program_of};
 ghost use Rattle.cell_types.specs.Typed.{plain};
-ghost use Rattle.accept.specs.Answers.{IsCrossedOff, IsFaultTold, IsProgramRefused};
+ghost use Rattle.accept.specs.Answers.{IsFaultTold};
 ghost use Rattle.accept.specs.Built.{IsBuilt, IsRefused};
 ghost use Rattle.accept.specs.Source.{IsSource};
 
+use crate::judging::judged;
 use crate::laws::laws_below;
 use crate::static_faults::static_refusal;
-use crate::walks::stall;
 use cell_lexer::tokens;
 use cell_parser::parse;
 use cell_tree::Source;
 use cell_types::{Program, resolve};
-use comm_sequence::{cost, sequences};
-use crossing_off::{Crossed, cross};
 use refusals::Refusal;
 use std::alloc::Global;
 
 /// The most bytes that a source has.
 const SOURCE_BYTES: usize = 1_048_576;
 
-/// Why nothing is made of a source: its first refusal, or want of memory, which may come for any source.
+/// Why nothing is made of a source.
 #[derive(Debug, Drop)]
 pub enum AcceptError {
+    /// The first refusal of the source.
     Refused(Refusal),
+    /// Memory ran out, which may happen to any source.
     Memory,
 }
 
@@ -34,16 +34,20 @@ pub enum AcceptError {
 pub struct Built {
     /// The source with its names resolved.
     pub program: Program,
-    /// The messages, by index, in the order in which they are crossed off.
+    /// The messages, by index, in the order in which they are crossed off: each as often as it has words.
     pub order: Vec<u16>,
+    /// The label of each message, by its index: the source's, or the proposed one where the source has none.
+    pub labels: Vec<u16>,
+    /// The bound on the steps (`docs/model.md`, "Bound"), at most 4,194,304.
+    pub bound: u32,
 }
 
-/// What is made of a source without a refusal, or its first refusal (`docs/refusals.md`).
+/// What is made of a source without a refusal, or its first refusal (`docs/refusals.md`). The text may be any bytes.
 ///
-/// The time is linear in the length of the text and in the steps that its cells take at most, but for a logarithm of the number
-/// of messages.
+/// The time is linear in the length of the text, in the steps that its cells take at most and in the lengths of the routes, but
+/// for a logarithm of the number of messages; proposing labels adds at most two million steps.
 pub fn build(alloc: Global, text: &[u8]) -> Result<Built, AcceptError>
-    ensures built { IfOk result (λ b. IsBuilt text.now b.program b.order.items) }
+    ensures built { IfOk result (IsBuilt text.now) }
     ensures refused { IfErr result (IsRefused text.now) }
 {
     if text.len() > SOURCE_BYTES {
@@ -52,7 +56,7 @@ pub fn build(alloc: Global, text: &[u8]) -> Result<Built, AcceptError>
     laws_below();
     let source = read(alloc, text)?;
     let program = resolved(alloc, source)?;
-    crossed(alloc, program)
+    judged(alloc, program)
 }
 
 /// The source that a text is, or its first refusal.
@@ -77,24 +81,5 @@ fn resolved(alloc: Global, source: Source) -> Result<Program, AcceptError>
     match resolve(alloc, source) {
         Ok(program) => Ok(program),
         Err(fault) => Err(AcceptError::Refused(static_refusal(alloc, cols, fault)?)),
-    }
-}
-
-/// What is made of a program that crossing-off empties, or its first refusal.
-fn crossed(alloc: Global, program: Program) -> Result<Built, AcceptError>
-    ensures program { IfOk result (λ b. b.program ≡ program) }
-    ensures crossed { IfOk result (λ b. IsCrossedOff (plain program) b.order.items) }
-    ensures refused { IfErr result (IsProgramRefused (plain program)) }
-{
-    laws_below();
-    if cost(&program).is_none() {
-        return Err(AcceptError::Refused(Refusal::CellSteps));
-    }
-    let seqs = sequences(alloc, &program)?;
-    match cross(alloc, &seqs)? {
-        Crossed::Empty(order) => Ok(Built { program, order }),
-        Crossed::Left(residue) => Err(AcceptError::Refused(stall(
-            alloc, &program, &seqs, &residue,
-        )?)),
     }
 }

@@ -8,12 +8,21 @@ use cell_lexer::LexError;
 use cell_parser::ParseError;
 use comm_sequence::CommError;
 use refusals::Refusal;
+use std::alloc::AllocFailed;
 use sys_base::Memory;
 
 impl From<Memory> for AcceptError {
     ghost from_gives = { λ _ e. e ≡ A.Memory };
 
     fn from(_error: Memory) -> AcceptError {
+        AcceptError::Memory
+    }
+}
+
+impl<T: Drop> From<AllocFailed<T>> for AcceptError {
+    ghost from_gives = { λ _ e. e ≡ A.Memory };
+
+    fn from(_error: AllocFailed<T>) -> AcceptError {
         AcceptError::Memory
     }
 }

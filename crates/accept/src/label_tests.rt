@@ -42,7 +42,7 @@ fn each(source: &mut Vec<u8>, before: &[u8], messages: &[u16], after: &[u8]) -> 
 
 /// Two cells that exchange words of so many messages in this order, each word written by the one and read by the other.
 fn exchange(alloc: Global, count: u16, order: &[u16]) -> Result<Seqs, Fail> {
-    let mut source = Vec::from_slice(alloc, b"array 1 x 2; queues 1; ")?;
+    let mut source = Vec::from_slice(alloc, b"array 1 x 2; queues 32; ")?;
     let all = below(alloc, count)?;
     each(&mut source, b"message M", &all, b" from 0.0 to 0.1; ")?;
     source.extend_from_slice(b"cell 0.0 { ")?;

@@ -7,6 +7,8 @@ use cell_lexer::one_outcome;
 use cell_parser::{one_first_wrong, one_program};
 use comm_sequence::alike_where_none_differ;
 use crossing_off::{one_greedy_order, one_walk};
+use labelling::one_proposal;
+use queue_plan::groups_by_link;
 
 /// A law: a text has at most one first refusal, and none where it is accepted.
 pub fn one_first_refusal()
@@ -26,4 +28,6 @@ pub(crate) fn laws_below()
     alike_where_none_differ();
     one_greedy_order();
     one_walk();
+    one_proposal();
+    groups_by_link();
 }

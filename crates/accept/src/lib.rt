@@ -3,9 +3,13 @@
 
 mod building;
 mod errors;
+mod judging;
+mod labels;
 mod laws;
 mod places;
+mod queues;
 mod static_faults;
+mod steps;
 mod walks;
 
 pub use building::{AcceptError, Built, build};

@@ -95,7 +95,7 @@ fn cell_name(alloc: Global, cols: u64, cell: u16) -> Result<Items<u8>, Memory>
 }
 
 /// The name of a link, by its id.
-fn link_name(alloc: Global, cols: u64, link: u16) -> Result<Items<u8>, Memory>
+pub fn link_name(alloc: Global, cols: u64, link: u16) -> Result<Items<u8>, Memory>
     requires { IsNear cols (link / 4) }
     ensures { IfOk result (λ name. (rows : ℕ) → name ≡ link_name (record { rows = rows; cols = cols }) link) }
 {

@@ -5,7 +5,8 @@ ghost use Rattle.cell_types.specs.Sound.{IsSound};
 ghost use Rattle.cell_types.specs.Typed.{plain};
 ghost use Rattle.comm_sequence.specs.Sequences.{sequences_of};
 ghost use Rattle.crossing_off.specs.Answer.{IsLeft};
-ghost use Rattle.accept.specs.Answers.{IsEndOf, IsStall, IsWaitOf};
+ghost use Rattle.accept.specs.Answers.{IsEndOf, IsWaitOf};
+ghost use Rattle.accept.specs.FirstRefusal.{IsStalled};
 ghost use Rattle.accept.specs.Told.{end_line, is_write, wait_line, walk_lines};
 
 use crate::places::place_of;
@@ -27,7 +28,7 @@ pub fn stall(
     requires sound { IsSound (plain program.now) }
     requires seqs { seqs.now ≡ sequences_of (plain program.now) }
     requires left { IsLeft seqs.now residue.now }
-    ensures { IfOk result (IsStall (plain program.now)) }
+    ensures { IfOk result (IsStalled (plain program.now)) }
 {
     let walk = walk(alloc, seqs, residue)?;
     Ok(Refusal::Crossing {

@@ -83,6 +83,15 @@ const PIPE: &[u8] =
 const CROSSED: &[u8] =
     b"array 1 x 2; queues 1; message A from 0.0 to 0.1; message B from 0.0 to 0.1; cell 0.0 { write A 1; write B 2; } cell 0.1 { var x; read B x; read A x; }";
 
+const SHARED: &[u8] =
+    b"array 1 x 2; queues 1; message A from 0.0 to 0.1; message B from 0.0 to 0.1; cell 0.0 { write A 1; write B 2; write A 3; } cell 0.1 { var x; read A x; read B x; read A x; }";
+
+const FALLING: &[u8] =
+    b"array 1 x 2; queues 1; message A from 0.0 to 0.1 label 2; message B from 0.0 to 0.1 label 1; cell 0.0 { write A 1; write A 2; write B 3; } cell 0.1 { var x; read A x; read A x; read B x; emit x; }";
+
+const SOME_LABELS: &[u8] =
+    b"array 1 x 2; queues 1; message A from 0.0 to 0.1 label 0; message B from 0.0 to 0.1; cell 0.0 { write A 1; write A 2; write B 3; } cell 0.1 { var x; read A x; read A x; read B x; emit x; }";
+
 // Asks a command of a source, over an `out` of which the first put may fail.
 fn ask(
     alloc: Global,
@@ -106,7 +115,12 @@ fn check(alloc: Global, source: Vec<u8>) -> Result<(Status, MemSink, SureSink), 
 #[test]
 fn sources_without_a_refusal_are_accepted(rt: HostRuntime) -> Result<(), Fail> {
     let alloc = rt.alloc();
-    let table: [&[u8]; 2] = [PIPE, b"array 01 x 2;queues 1;# no cells"];
+    let table: [&[u8]; 4] = [
+        PIPE,
+        b"array 01 x 2;queues 1;# no cells",
+        b"array 1 x 2; queues 1; link 0.0 E queues 2; message A from 0.0 to 0.1; message B from 0.0 to 0.1; cell 0.0 { write A 1; write B 2; write A 3; } cell 0.1 { var x; read A x; read B x; read A x; }",
+        b"array 1 x 2; queues 1; message A from 0.0 to 0.1; message Z from 0.1 to 0.0; cell 0.0 { write A 7; } cell 0.1 { var x; read A x; emit x; }",
+    ];
     for source in table {
         let (status, out, err) = check(alloc, source.to_vec(alloc)?)?;
         assert_eq!(rt; status, Status::Done);
@@ -117,7 +131,7 @@ fn sources_without_a_refusal_are_accepted(rt: HostRuntime) -> Result<(), Fail> {
 }
 
 // Sources that are refused, each with its line.
-const REFUSED: [(&[u8], &str); 11] = [
+const REFUSED: [(&[u8], &str); 16] = [
     (
         b"array 1 x 2; queues 1; cell 0.2 { }",
         "E12 line 1: outside the grid\n",
@@ -149,6 +163,23 @@ const REFUSED: [(&[u8], &str); 11] = [
         "E07 line 1: more than 17 braces are open\n",
     ),
     (CROSSED, "E30 crossing-off leaves 4 operations\n"),
+    (
+        SOME_LABELS,
+        "E41 B has no label and another message has one\n",
+    ),
+    (
+        FALLING,
+        "E40 cell 0.0 at 2: B with label 1 follows A with label 2\n",
+    ),
+    (SHARED, "E50 link 0.0E label 0 needs 2 queues and has 1\n"),
+    (
+        b"array 16 x 16; queues 1; message A from 0.0 to 15.15; cell 0.0 { for i 65535 { write A 1; write A 1; } } cell 15.15 { var x; for i 65535 { read A x; read A x; } }",
+        "E61 the bound 4325342 is more than 4194304\n",
+    ),
+    (
+        b"array 1 x 1; queues 1; cell 0.0 { for i 65535 { for j 65535 { } } }",
+        "E60 the cells take more than 4194304 steps\n",
+    ),
     (
         b"{{{{{{{{{{{{{{{{{{ @",
         "E01 byte at 19 is not part of the language\n",
@@ -214,7 +245,7 @@ fn accepted_source_needs_no_explanation(rt: HostRuntime) -> Result<(), Fail> {
 }
 
 // Sources that are refused, each with its explanation.
-const EXPLAINED: [(&[u8], &str); 3] = [
+const EXPLAINED: [(&[u8], &str); 6] = [
     (b"@", "E01 byte at 0 is not part of the language\n"),
     (
         CROSSED,
@@ -223,6 +254,18 @@ const EXPLAINED: [(&[u8], &str); 3] = [
     (
         b"array 1 x 2; queues 1; message A from 0.0 to 0.1; cell 0.0 { write A 1; }",
         "E30 crossing-off leaves 1 operations\n0.0 waits to write A to 0.1\n0.1 has nothing left\n",
+    ),
+    (
+        SOME_LABELS,
+        "E41 B has no label and another message has one\n",
+    ),
+    (
+        FALLING,
+        "E40 cell 0.0 at 2: B with label 1 follows A with label 2\n",
+    ),
+    (
+        SHARED,
+        "E50 link 0.0E label 0 needs 2 queues and has 1\ngroup A B\n",
     ),
 ];
 

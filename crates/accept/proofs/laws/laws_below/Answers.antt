@@ -11,4 +11,6 @@ returns c = record {
   alike = c.alike_where_none_differ.ensures;
   order = c.one_greedy_order.ensures;
   walk = c.one_walk.ensures;
+  proposal = c.one_proposal.ensures;
+  groups = c.groups_by_link.ensures.count;
 }

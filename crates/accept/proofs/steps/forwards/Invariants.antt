@@ -1,0 +1,10 @@
+use Rattle.std.proofs.Common.{◌≡◌, ◌*◌, ◌≤◌}
+use Rattle.cell_types.specs.Typed.{plain}
+use Rattle.accept.proofs.Moves.{moves_before}
+use Rattle.accept.proofs.steps.forwards.Given as goal
+
+abbrev pub invariant-loop-index : goal.invariant-loop-index
+invariant-loop-index l = record {
+  sum : l.forwards ≡ moves_before (plain l.program) l.index;
+  small : l.forwards ≤ l.index * 4393751542785;
+}

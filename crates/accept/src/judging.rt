@@ -1,0 +1,77 @@
+//! What is made of a program, or its first refusal.
+ghost use Rattle.std.specs.Prelude.{◌≡◌, ◌<◌, ◌≤◌, IfOk, IfErr};
+ghost use Rattle.cell_types.specs.Sound.{IsSound};
+ghost use Rattle.cell_types.specs.Typed.{plain};
+ghost use Rattle.comm_sequence.specs.Sequences.{sequences_of};
+ghost use Rattle.crossing_off.specs.Answer.{IsEmpty};
+ghost use Rattle.refusals.specs.declared.refusal.Refusal.TheVariants as R;
+ghost use Rattle.accept.specs.Answers.{IsFound};
+ghost use Rattle.accept.specs.Built.{IsJudged};
+ghost use Rattle.accept.specs.FirstRefusal.{IsFirstOf, IsStalled, PassesAll, program_trials};
+ghost use Rattle.accept.specs.declared.building.AcceptError.TheVariants as A;
+
+use crate::building::{AcceptError, Built};
+use crate::labels::{labels_of, never_fall};
+use crate::laws::laws_below;
+use crate::queues::fitting_groups;
+use crate::steps::bound_of;
+use crate::walks::stall;
+use cell_types::Program;
+use comm_sequence::{Seqs, cost, sequences};
+use crossing_off::{Crossed, cross};
+use refusals::Refusal;
+use std::alloc::Global;
+
+/// The greatest bound on the steps of a program that is accepted.
+const STEPS: u32 = 4_194_304;
+
+/// What is made of a program without a refusal, or its first refusal.
+pub fn judged(alloc: Global, program: Program) -> Result<Built, AcceptError>
+    ensures program { IfOk result (λ b. b.program ≡ program) }
+    ensures passes { IfOk result (λ b. PassesAll program_trials (plain program)) }
+    ensures judged { IfOk result (λ b. IsJudged (plain program) b.order.items b.labels.items b.bound) }
+    ensures refused { IfErr result (IsFound (IsFirstOf program_trials) (plain program)) }
+{
+    laws_below();
+    let Some(steps) = cost(&program) else {
+        return Err(AcceptError::Refused(Refusal::CellSteps));
+    };
+    let seqs = sequences(alloc, &program)?;
+    let order = crossing_order(alloc, &program, &seqs)?;
+    let labels = labels_of(alloc, &program, &seqs)?;
+    never_fall(alloc, &program, &seqs, &labels)?;
+    let groups = fitting_groups(alloc, &program, &seqs, &labels)?;
+    let sum = bound_of(&program, &seqs, &groups, steps);
+    let bound = limited(sum)?;
+    Ok(Built {
+        program,
+        order,
+        labels,
+        bound,
+    })
+}
+
+/// The crossing order of the greedy rule, or the refusal of a program that has none.
+fn crossing_order(alloc: Global, program: &Program, seqs: &Seqs) -> Result<Vec<u16>, AcceptError>
+    requires sound { IsSound (plain program.now) }
+    requires seqs { seqs.now ≡ sequences_of (plain program.now) }
+    ensures empty { IfOk result (λ order. IsEmpty (sequences_of (plain program.now)) order.items) }
+    ensures refused { IfErr result (IsFound IsStalled (plain program.now)) }
+{
+    match cross(alloc, seqs)? {
+        Crossed::Empty(order) => Ok(order),
+        Crossed::Left(residue) => Err(AcceptError::Refused(stall(alloc, program, seqs, &residue)?)),
+    }
+}
+
+/// A bound on steps, or the refusal of one above the limit.
+fn limited(bound: u32) -> Result<u32, AcceptError>
+    ensures within { IfOk result (λ n. (n ≡ bound) × (n ≤ 4194304)) }
+    ensures refused { IfErr result (λ e. (4194304 < bound) × (e ≡ A.Refused (R.Bound bound))) }
+{
+    if bound > STEPS {
+        Err(AcceptError::Refused(Refusal::Bound { bound }))
+    } else {
+        Ok(bound)
+    }
+}
