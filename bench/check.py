@@ -29,21 +29,17 @@ def filled(size, head, line, tail):
 
 
 def exchange(size):
-    """Two cells that exchange 512 messages, word by word."""
-    names = [f"M{m}" for m in range(MESSAGES)]
+    """Two cells that exchange 512 messages, one after another."""
+    names = [f"M{m:03}" for m in range(MESSAGES)]
     head = HEAD + "".join(f"message {name} from 0.0 to 0.1;\n" for name in names)
     between = "}\ncell 0.1 {\nvar x;\n"
     room = size - len(head) - len("cell 0.0 {\n") - len(between) - len("}\n")
-    writes, reads = [], []
-    while True:
-        name = names[len(writes) % MESSAGES]
-        write, read = f"write {name} 7;\n", f"read {name} x;\n"
-        if room < len(write) + len(read):
-            break
-        room -= len(write) + len(read)
-        writes.append(write)
-        reads.append(read)
-    return head + "cell 0.0 {\n" + "".join(writes) + between + "".join(reads) + "}\n" + " " * room
+    words = room // (len("write M000 7;\n") + len("read M000 x;\n"))
+    sent = [names[k * MESSAGES // words] for k in range(words)]
+    writes = "".join(f"write {name} 7;\n" for name in sent)
+    reads = "".join(f"read {name} x;\n" for name in sent)
+    source = head + "cell 0.0 {\n" + writes + between + reads + "}\n"
+    return source + " " * (size - len(source))
 
 
 def statements(size):
