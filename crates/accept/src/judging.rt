@@ -39,7 +39,7 @@ pub fn judged(alloc: Global, program: Program) -> Result<Built, AcceptError>
     let seqs = sequences(alloc, &program)?;
     let order = crossing_order(alloc, &program, &seqs)?;
     let labels = labels_of(alloc, &program, &seqs)?;
-    never_fall(alloc, &program, &seqs, &labels)?;
+    never_fall(&program, &seqs, &labels)?;
     let groups = fitting_groups(alloc, &program, &seqs, &labels)?;
     let sum = bound_of(&program, &seqs, &groups, steps);
     let bound = limited(sum)?;

@@ -43,7 +43,7 @@ fn given_labels(alloc: Global, messages: &[Message]) -> Result<Vec<u16>, AcceptE
     let mut labels = Vec::new(alloc);
     for message in messages {
         let Some(label) = message.label else {
-            let name = message.name.copy(alloc)?;
+            let name = message.name.copy()?;
             return Err(AcceptError::Refused(Refusal::SomeLabels { name }));
         };
         labels.push(label)?;
@@ -52,12 +52,7 @@ fn given_labels(alloc: Global, messages: &[Message]) -> Result<Vec<u16>, AcceptE
 }
 
 /// Nothing where no label falls, or the refusal of the first fall.
-pub fn never_fall(
-    alloc: Global,
-    program: &Program,
-    seqs: &Seqs,
-    labels: &[u16],
-) -> Result<(), AcceptError>
+pub fn never_fall(program: &Program, seqs: &Seqs, labels: &[u16]) -> Result<(), AcceptError>
     requires seqs { seqs.now ≡ sequences_of (plain program.now) }
     requires labels { AreLabels (plain program.now) labels.now }
     requires each { length labels.now ≡ length program.now.messages }
@@ -67,7 +62,7 @@ pub fn never_fall(
     falls_inside(program, seqs);
     match check(seqs, labels) {
         None => Ok(()),
-        Some(fall) => Err(AcceptError::Refused(fall_refusal(alloc, program, labels, fall)?)),
+        Some(fall) => Err(AcceptError::Refused(fall_refusal(program, labels, fall)?)),
     }
 }
 
@@ -80,12 +75,7 @@ fn falls_inside(program: &Program, seqs: &Seqs)
 }
 
 /// The refusal of a fall.
-fn fall_refusal(
-    alloc: Global,
-    program: &Program,
-    labels: &[u16],
-    fall: Fall,
-) -> Result<Refusal, Memory>
+fn fall_refusal(program: &Program, labels: &[u16], fall: Fall) -> Result<Refusal, Memory>
     requires fall { IsFallOf (plain program.now) fall }
     requires each { length labels.now ≡ length program.now.messages }
     ensures { IfOk result (λ r. r ≡ fall_refusal (plain program.now) labels.now fall) }
@@ -96,9 +86,9 @@ fn fall_refusal(
         row,
         col,
         at: fall.at,
-        before: messages[usize::from(fall.before)].name.copy(alloc)?,
+        before: messages[usize::from(fall.before)].name.copy()?,
         first: labels[usize::from(fall.before)],
-        after: messages[usize::from(fall.after)].name.copy(alloc)?,
+        after: messages[usize::from(fall.after)].name.copy()?,
         second: labels[usize::from(fall.after)],
     })
 }

@@ -97,7 +97,7 @@ fn names_of(alloc: Global, program: &Program, messages: &[u16]) -> Result<Items<
 {
     let mut names = Items::new(alloc);
     for message in messages {
-        names.push(program.messages()[usize::from(*message)].name.copy(alloc)?)?;
+        names.push(program.messages()[usize::from(*message)].name.copy()?)?;
     }
     Ok(names)
 }

@@ -7,8 +7,8 @@ ghost use Rattle.cell_parser.specs.Machine.{dir_of, ExpectName, ExpectNumber, Ex
 ghost use Rattle.cell_parser.specs.Reading.{AreTokens, Begins, Lacks, IsRead, IsStuck, Takes, Misses};
 
 use crate::fault::Fault;
+use crate::names::Names;
 use cell_lexer::{Key, Mark, Sort, Token};
-use std::alloc::Global;
 use sys_base::{Dir, Name, Op};
 
 /// The fault that the first of these tokens is, or the end where there is none.
@@ -164,21 +164,9 @@ pub(crate) fn next_name<'a, 'b>(
     }
 }
 
-/// The name with these bytes.
-pub(crate) fn name_of(alloc: Global, bytes: &[u8]) -> Result<Name, Fault>
-    requires { IsName bytes.now }
-    ensures name { IfOk result (λ n. n ≡ bytes.now) }
-    ensures wrong { IfErr result (λ e. e ≡ Fault.Memory) }
-{
-    let Some(name) = Name::new(alloc, bytes)? else {
-        unreachable!()
-    };
-    Ok(name)
-}
-
 /// A name that has to come first, and the tokens behind it.
 pub(crate) fn name<'a>(
-    alloc: Global,
+    names: &Names,
     text: &[u8],
     tokens: &'a [Token],
 ) -> Result<(Name, &'a [Token]), Fault>
@@ -189,7 +177,7 @@ pub(crate) fn name<'a>(
     ensures kept { IfOk result (λ r. AreTokens text.now r.1.now) }
 {
     match next_name(text, tokens) {
-        Some((bytes, _, rest)) => Ok((name_of(alloc, bytes)?, rest)),
+        Some((bytes, _, rest)) => Ok((names.name(bytes)?, rest)),
         None => Err(unexpected(tokens)),
     }
 }

@@ -8,12 +8,12 @@ ghost use Rattle.cell_parser.specs.Reading.{AreTokens};
 
 use crate::cursor::{after_key, direction, expect, expect_key, name};
 use crate::fault::Fault;
+use crate::names::Names;
 use crate::parts::{label, length, place, route, setting};
 use crate::statement::body;
 use cell_lexer::{Key, Mark, Token};
 use cell_tree::{CellDecl, LinkDecl, MessageDecl, VarDecl};
 use sqlite_items::Items;
-use std::alloc::Global;
 
 /// A `link` line behind its first word, which stands on this line of the text, and the tokens behind it.
 pub(crate) fn link<'a>(
@@ -43,7 +43,7 @@ pub(crate) fn link<'a>(
 
 /// A `message` line behind its first word, which stands on this line of the text, and the tokens behind it.
 pub(crate) fn message<'a>(
-    alloc: Global,
+    names: &Names,
     text: &[u8],
     tokens: &'a [Token],
     line: u32,
@@ -55,12 +55,12 @@ pub(crate) fn message<'a>(
     ensures shorter { IfOk result (λ r. length r.1.now < length tokens.now) }
     ensures kept { IfOk result (λ r. AreTokens text.now r.1.now) }
 {
-    let (name, rest) = name(alloc, text, tokens)?;
+    let (name, rest) = name(names, text, tokens)?;
     let rest = expect_key(Key::From, rest)?;
     let (from, rest) = place(rest)?;
     let rest = expect_key(Key::To, rest)?;
     let (to, rest) = place(rest)?;
-    let (route, rest) = route(alloc, text, rest)?;
+    let (route, rest) = route(names.alloc, text, rest)?;
     let (label, rest) = label(rest)?;
     let message = MessageDecl {
         name,
@@ -75,7 +75,7 @@ pub(crate) fn message<'a>(
 
 /// A `var` line behind its first word, which stands on this line of the text, and the tokens behind it.
 fn variable<'a>(
-    alloc: Global,
+    names: &Names,
     text: &[u8],
     tokens: &'a [Token],
     line: u32,
@@ -87,14 +87,14 @@ fn variable<'a>(
     ensures shorter { IfOk result (λ r. length r.1.now < length tokens.now) }
     ensures kept { IfOk result (λ r. AreTokens text.now r.1.now) }
 {
-    let (name, rest) = name(alloc, text, tokens)?;
+    let (name, rest) = name(names, text, tokens)?;
     let (length, rest) = length(rest)?;
     Ok((VarDecl { name, length, line }, rest))
 }
 
 /// The `var` lines that come first, and the tokens behind them.
 fn variables<'a>(
-    alloc: Global,
+    names: &Names,
     text: &[u8],
     tokens: &'a [Token],
 ) -> Result<(Items<VarDecl>, &'a [Token]), Fault>
@@ -105,10 +105,10 @@ fn variables<'a>(
     ensures shorter { IfOk result (λ r. length r.1.now ≤ length tokens.now) }
     ensures kept { IfOk result (λ r. AreTokens text.now r.1.now) }
 {
-    let mut vars = Items::new(alloc);
+    let mut vars = Items::new(names.alloc);
     let mut rest = tokens;
     'each: while let Some((line, after)) = after_key(Key::Var, rest) {
-        let (var, next) = variable(alloc, text, after, line)?;
+        let (var, next) = variable(names, text, after, line)?;
         vars.push(var)?;
         rest = next;
     }
@@ -117,7 +117,7 @@ fn variables<'a>(
 
 /// A cell behind its first word, which stands on this line of the text, and the tokens behind it.
 pub(crate) fn cell<'a>(
-    alloc: Global,
+    names: &Names,
     text: &[u8],
     tokens: &'a [Token],
     line: u32,
@@ -131,8 +131,8 @@ pub(crate) fn cell<'a>(
 {
     let (place, rest) = place(tokens)?;
     let rest = expect(Mark::OpenBrace, rest)?;
-    let (vars, rest) = variables(alloc, text, rest)?;
-    let (body, rest) = body(alloc, text, rest)?;
+    let (vars, rest) = variables(names, text, rest)?;
+    let (body, rest) = body(names, text, rest)?;
     let cell = CellDecl {
         place,
         vars,

@@ -2,8 +2,9 @@ ghost use Rattle.std.specs.Prelude.{◌≡◌, ℕ, ◌<◌, ◌≤◌, length, 
 ghost use Rattle.cell_parser.specs.Machine.{Called, Want, WantAtom};
 ghost use Rattle.cell_parser.specs.Reading.{AreTokens, IsOperand, NoOperand, IsWhole, NoWhole, a_term, a_sum, a_whole};
 
-use crate::cursor::{after_mark, expect, name_of, next_name, next_number, unexpected};
+use crate::cursor::{after_mark, expect, next_name, next_number, unexpected};
 use crate::fault::Fault;
+use crate::names::Names;
 use crate::operator::{additive, comparison, index, minus, product};
 use cell_lexer::{Mark, Token};
 use cell_tree::Expr;
@@ -14,7 +15,7 @@ use sys_base::{Name, Op};
 /// A whole expression with this mark behind it, and the tokens behind that.
 #[cycle(expression)]
 pub(crate) fn expression<'a>(
-    alloc: Global,
+    names: &Names,
     end: Mark,
     text: &[u8],
     tokens: &'a [Token],
@@ -25,25 +26,25 @@ pub(crate) fn expression<'a>(
     ensures shorter { IfOk result (λ r. length r.1.now < length tokens.now) }
     ensures kept { IfOk result (λ r. AreTokens text.now r.1.now) }
 {
-    let (value, rest) = whole(alloc, text, tokens)?;
+    let (value, rest) = whole(names, text, tokens)?;
     let rest = expect(end, rest)?;
     Ok((value, rest))
 }
 
 /// A comparison or a sum, and the tokens behind it.
 #[cycle(expression)]
-fn whole<'a>(alloc: Global, text: &[u8], tokens: &'a [Token]) -> Result<(Expr, &'a [Token]), Fault>
+fn whole<'a>(names: &Names, text: &[u8], tokens: &'a [Token]) -> Result<(Expr, &'a [Token]), Fault>
     requires { AreTokens text.now tokens.now }
     ensures read { IfOk result (λ r. IsOperand text.now a_whole tokens.now r.0 r.1.now) }
     ensures wrong { IfErr result (λ e. NoOperand text.now a_whole tokens.now e) }
     ensures shorter { IfOk result (λ r. length r.1.now < length tokens.now) }
     ensures kept { IfOk result (λ r. AreTokens text.now r.1.now) }
 {
-    let (left, rest) = sum(alloc, text, tokens)?;
+    let (left, rest) = sum(names, text, tokens)?;
     match comparison(rest) {
         Some((op, after)) => {
-            let (right, next) = sum(alloc, text, after)?;
-            Ok((binary(alloc, op, left, right)?, next))
+            let (right, next) = sum(names, text, after)?;
+            Ok((binary(names.alloc, op, left, right)?, next))
         }
         None => Ok((left, rest)),
     }
@@ -51,17 +52,17 @@ fn whole<'a>(alloc: Global, text: &[u8], tokens: &'a [Token]) -> Result<(Expr, &
 
 /// A sum, and the tokens behind it.
 #[cycle(expression)]
-fn sum<'a>(alloc: Global, text: &[u8], tokens: &'a [Token]) -> Result<(Expr, &'a [Token]), Fault>
+fn sum<'a>(names: &Names, text: &[u8], tokens: &'a [Token]) -> Result<(Expr, &'a [Token]), Fault>
     requires { AreTokens text.now tokens.now }
     ensures read { IfOk result (λ r. IsOperand text.now a_sum tokens.now r.0 r.1.now) }
     ensures wrong { IfErr result (λ e. NoOperand text.now a_sum tokens.now e) }
     ensures shorter { IfOk result (λ r. length r.1.now < length tokens.now) }
     ensures kept { IfOk result (λ r. AreTokens text.now r.1.now) }
 {
-    let (mut left, mut rest) = term(alloc, text, tokens)?;
+    let (mut left, mut rest) = term(names, text, tokens)?;
     'each: while let Some((op, after)) = additive(rest) {
-        let (right, next) = term(alloc, text, after)?;
-        left = binary(alloc, op, left, right)?;
+        let (right, next) = term(names, text, after)?;
+        left = binary(names.alloc, op, left, right)?;
         rest = next;
     }
     Ok((left, rest))
@@ -69,17 +70,17 @@ fn sum<'a>(alloc: Global, text: &[u8], tokens: &'a [Token]) -> Result<(Expr, &'a
 
 /// A term, and the tokens behind it.
 #[cycle(expression)]
-fn term<'a>(alloc: Global, text: &[u8], tokens: &'a [Token]) -> Result<(Expr, &'a [Token]), Fault>
+fn term<'a>(names: &Names, text: &[u8], tokens: &'a [Token]) -> Result<(Expr, &'a [Token]), Fault>
     requires { AreTokens text.now tokens.now }
     ensures read { IfOk result (λ r. IsOperand text.now a_term tokens.now r.0 r.1.now) }
     ensures wrong { IfErr result (λ e. NoOperand text.now a_term tokens.now e) }
     ensures shorter { IfOk result (λ r. length r.1.now < length tokens.now) }
     ensures kept { IfOk result (λ r. AreTokens text.now r.1.now) }
 {
-    let (mut left, mut rest) = unary(alloc, text, tokens)?;
+    let (mut left, mut rest) = unary(names, text, tokens)?;
     'each: while let Some((op, after)) = product(rest) {
-        let (right, next) = unary(alloc, text, after)?;
-        left = binary(alloc, op, left, right)?;
+        let (right, next) = unary(names, text, after)?;
+        left = binary(names.alloc, op, left, right)?;
         rest = next;
     }
     Ok((left, rest))
@@ -87,7 +88,7 @@ fn term<'a>(alloc: Global, text: &[u8], tokens: &'a [Token]) -> Result<(Expr, &'
 
 /// An operand with a minus or without, and the tokens behind it.
 #[cycle(expression)]
-fn unary<'a>(alloc: Global, text: &[u8], tokens: &'a [Token]) -> Result<(Expr, &'a [Token]), Fault>
+fn unary<'a>(names: &Names, text: &[u8], tokens: &'a [Token]) -> Result<(Expr, &'a [Token]), Fault>
     requires { AreTokens text.now tokens.now }
     ensures read { IfOk result (λ r. IsOperand text.now Want tokens.now r.0 r.1.now) }
     ensures wrong { IfErr result (λ e. NoOperand text.now Want tokens.now e) }
@@ -96,16 +97,16 @@ fn unary<'a>(alloc: Global, text: &[u8], tokens: &'a [Token]) -> Result<(Expr, &
 {
     match minus(tokens) {
         Some(after) => {
-            let (operand, rest) = atom(alloc, text, after)?;
-            Ok((negate(alloc, operand)?, rest))
+            let (operand, rest) = atom(names, text, after)?;
+            Ok((negate(names.alloc, operand)?, rest))
         }
-        None => atom(alloc, text, tokens),
+        None => atom(names, text, tokens),
     }
 }
 
 /// An operand without a minus, and the tokens behind it.
 #[cycle(expression)]
-fn atom<'a>(alloc: Global, text: &[u8], tokens: &'a [Token]) -> Result<(Expr, &'a [Token]), Fault>
+fn atom<'a>(names: &Names, text: &[u8], tokens: &'a [Token]) -> Result<(Expr, &'a [Token]), Fault>
     requires { AreTokens text.now tokens.now }
     ensures read { IfOk result (λ r. IsOperand text.now WantAtom tokens.now r.0 r.1.now) }
     ensures wrong { IfErr result (λ e. NoOperand text.now WantAtom tokens.now e) }
@@ -116,11 +117,11 @@ fn atom<'a>(alloc: Global, text: &[u8], tokens: &'a [Token]) -> Result<(Expr, &'
         return Ok((Expr::Number(number), rest));
     }
     if let Some((bytes, _, rest)) = next_name(text, tokens) {
-        let name = name_of(alloc, bytes)?;
-        return called(alloc, text, name, rest);
+        let name = names.name(bytes)?;
+        return called(names, text, name, rest);
     }
     match after_mark(Mark::OpenParen, tokens) {
-        Some(after) => expression(alloc, Mark::CloseParen, text, after),
+        Some(after) => expression(names, Mark::CloseParen, text, after),
         None => Err(unexpected(tokens)),
     }
 }
@@ -128,7 +129,7 @@ fn atom<'a>(alloc: Global, text: &[u8], tokens: &'a [Token]) -> Result<(Expr, &'
 /// The operand that begins with this name, and the tokens behind it.
 #[cycle(expression)]
 fn called<'a>(
-    alloc: Global,
+    names: &Names,
     text: &[u8],
     name: Name,
     tokens: &'a [Token],
@@ -141,8 +142,8 @@ fn called<'a>(
 {
     match index(tokens) {
         Some(after) => {
-            let (value, rest) = expression(alloc, Mark::CloseBracket, text, after)?;
-            Ok((element(alloc, name, value)?, rest))
+            let (value, rest) = expression(names, Mark::CloseBracket, text, after)?;
+            Ok((element(names.alloc, name, value)?, rest))
         }
         None => Ok((Expr::Named(name), tokens)),
     }

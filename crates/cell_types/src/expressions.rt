@@ -22,9 +22,9 @@ pub(crate) fn resolve_expression(
 {
     match expr {
         Expr::Number(number) => Ok(TypedExpr::Number(*number)),
-        Expr::Named(name) => scope.value(alloc, line, name),
+        Expr::Named(name) => scope.value(line, name),
         Expr::At(name, index) => {
-            let (base, len) = scope.array(alloc, line, name)?;
+            let (base, len) = scope.array(line, name)?;
             let index = resolve_expression(alloc, scope, line, index.get())?;
             Ok(TypedExpr::At {
                 base,

@@ -45,8 +45,8 @@ pub(crate) fn resolve_messages<'a>(
     let mut ends = Vec::new(alloc);
     let mut list = Vec::new(alloc);
     for message in declared {
-        add_name(alloc, &mut names, message)?;
-        let between = ends_of(alloc, grid, message)?;
+        add_name(&mut names, message)?;
+        let between = ends_of(grid, message)?;
         list.push(resolve_message(alloc, grid, between, message)?)?;
         ends.push(between)?;
     }
@@ -57,11 +57,7 @@ pub(crate) fn resolve_messages<'a>(
 }
 
 /// Adds the name of one message more.
-fn add_name<'a>(
-    alloc: Global,
-    names: &mut NameSet<'a>,
-    message: &'a MessageDecl,
-) -> Result<(), StaticError>
+fn add_name<'a>(names: &mut NameSet<'a>, message: &'a MessageDecl) -> Result<(), StaticError>
     ensures names { MatchResult result
         (λ _. (naming_faults (names_in names.old) message.now ≡ [])
         × (names_in names.new ≡ names_in names.old ++ message.now.name ∷ []))
@@ -76,13 +72,13 @@ fn add_name<'a>(
         });
     }
     if !names.add(&message.name)? {
-        return Err(twice(alloc, &message.name, line)?);
+        return Err(twice(&message.name, line)?);
     }
     Ok(())
 }
 
 /// The ends of a message, which are cells of the grid and not the same.
-fn ends_of(alloc: Global, grid: &Grid, message: &MessageDecl) -> Result<Ends, StaticError>
+fn ends_of(grid: &Grid, message: &MessageDecl) -> Result<Ends, StaticError>
     ensures ends { Resolves (ends_faults grid.now message.now) (λ ends. ends) (ends_of grid.now message.now) result }
     ensures cells { IfOk result
         (λ ends. (ends.from < cell_count grid.now) × (ends.to < cell_count grid.now) × (ends.from ≢ ends.to)) }
@@ -92,7 +88,7 @@ fn ends_of(alloc: Global, grid: &Grid, message: &MessageDecl) -> Result<Ends, St
     };
     if ends.from == ends.to {
         return Err(StaticError::SelfMessage {
-            name: message.name.copy(alloc)?,
+            name: message.name.copy()?,
             line: message.line,
         });
     }

@@ -42,6 +42,9 @@ impl<'a> NameSet<'a> {
     pub(crate) fn place(&self, name: &Name) -> Option<usize>
         ensures { result ≡ place_of (names_in self.now) name.now }
     {
+        if self.names.is_empty() {
+            return None;
+        }
         self.names.get_index_of(name.bytes())
     }
 

@@ -27,7 +27,7 @@ pub(crate) fn resolve_block<'a>(
         (resolved_block (scope_in scope.old) (written_block body.now)) result }
     ensures scope { OnOk result (scope_in scope.new ≡ scope_in scope.old) }
 {
-    let mut typed = Vec::new(alloc);
+    let mut typed = Vec::with_capacity(alloc, body.len())?;
     for statement in body {
         let line = statement.line;
         let act = resolve_act(alloc, scope, line, &statement.act)?;
@@ -53,15 +53,15 @@ fn resolve_act<'a>(
         Act::Set { name, value } => set(alloc, scope, line, name, value),
         Act::SetAt { name, index, value } => set_at(alloc, scope, line, name, index, value),
         Act::Write { message, value } => write(alloc, scope, line, message, value),
-        Act::Read { message, name } => read(alloc, scope, line, message, name),
-        Act::Take { name } => take(alloc, scope, line, name),
+        Act::Read { message, name } => read(scope, line, message, name),
+        Act::Take { name } => take(scope, line, name),
         Act::Emit { value } => emit(alloc, scope, line, value),
         Act::For {
             counter,
             turns,
             body,
         } => {
-            let counter = scope.enter(alloc, line, counter, *turns)?;
+            let counter = scope.enter(line, counter, *turns)?;
             let body = resolve_block(alloc, scope, body.as_slice())?;
             scope.leave();
             Ok(TypedAct::For {
@@ -90,7 +90,7 @@ fn set(
     ensures { Resolves (action_faults (scope_in scope.now) line (W.Set name.now (written_expression value.now))) action_of
         (resolved_action (scope_in scope.now) (W.Set name.now (written_expression value.now))) result }
 {
-    let word = scope.variable(alloc, line, name)?;
+    let word = scope.variable(line, name)?;
     let value = resolve_expression(alloc, scope, line, value)?;
     Ok(TypedAct::Set { word, value })
 }
@@ -107,7 +107,7 @@ fn set_at(
     ensures { Resolves (action_faults (scope_in scope.now) line (W.SetAt name.now (written_expression index.now) (written_expression value.now))) action_of
         (resolved_action (scope_in scope.now) (W.SetAt name.now (written_expression index.now) (written_expression value.now))) result }
 {
-    let (base, len) = scope.array(alloc, line, name)?;
+    let (base, len) = scope.array(line, name)?;
     let index = resolve_expression(alloc, scope, line, index)?;
     let value = resolve_expression(alloc, scope, line, value)?;
     Ok(TypedAct::SetAt {
@@ -129,33 +129,27 @@ fn write(
     ensures { Resolves (action_faults (scope_in scope.now) line (W.Write message.now (written_expression value.now))) action_of
         (resolved_action (scope_in scope.now) (W.Write message.now (written_expression value.now))) result }
 {
-    let message = scope.message(alloc, line, true, message)?;
+    let message = scope.message(line, true, message)?;
     let value = resolve_expression(alloc, scope, line, value)?;
     Ok(TypedAct::Write { message, value })
 }
 
 /// A `read`.
-fn read(
-    alloc: Global,
-    scope: &Scope,
-    line: u32,
-    message: &Name,
-    name: &Name,
-) -> Result<TypedAct, StaticError>
+fn read(scope: &Scope, line: u32, message: &Name, name: &Name) -> Result<TypedAct, StaticError>
     ensures { Resolves (action_faults (scope_in scope.now) line (W.Read message.now name.now)) action_of
         (resolved_action (scope_in scope.now) (W.Read message.now name.now)) result }
 {
-    let message = scope.message(alloc, line, false, message)?;
-    let word = scope.variable(alloc, line, name)?;
+    let message = scope.message(line, false, message)?;
+    let word = scope.variable(line, name)?;
     Ok(TypedAct::Read { message, word })
 }
 
 /// A `take`.
-fn take(alloc: Global, scope: &Scope, line: u32, name: &Name) -> Result<TypedAct, StaticError>
+fn take(scope: &Scope, line: u32, name: &Name) -> Result<TypedAct, StaticError>
     ensures { Resolves (action_faults (scope_in scope.now) line (W.Take name.now)) action_of
         (resolved_action (scope_in scope.now) (W.Take name.now)) result }
 {
-    let word = scope.variable(alloc, line, name)?;
+    let word = scope.variable(line, name)?;
     Ok(TypedAct::Take { word })
 }
 

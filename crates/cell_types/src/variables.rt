@@ -51,7 +51,7 @@ impl<'a> Variables<'a> {
         let mut words = 0;
         for variable in declared {
             if messages.find(&variable.name).is_some() || !names.add(&variable.name)? {
-                return Err(twice(alloc, &variable.name, variable.line)?);
+                return Err(twice(&variable.name, variable.line)?);
             }
             if slots.len() >= NAMES {
                 return Err(StaticError::Limit {
@@ -115,11 +115,11 @@ fn slot_at(words: u16, length: Option<u64>) -> Slot
 }
 
 /// A second declaration of a name on this line.
-pub(crate) fn twice(alloc: Global, name: &Name, line: u32) -> Result<StaticError, Memory>
+pub(crate) fn twice(name: &Name, line: u32) -> Result<StaticError, Memory>
     ensures { IfOk result (λ error. error ≡ E.Twice (W.Named name.now) line) }
 {
     Ok(StaticError::Twice {
-        what: What::Named(name.copy(alloc)?),
+        what: What::Named(name.copy()?),
         line,
     })
 }

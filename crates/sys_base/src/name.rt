@@ -6,23 +6,25 @@ use crate::key::Key;
 use crate::memory::Memory;
 use std::alloc::Global;
 use std::marker::Model;
+use std::rc::Rc;
 
 /// The most bytes that a name has.
 pub const NAME_BYTES: usize = 32;
 
-/// A name of the cell language, seen as its bytes: a letter, then letters, digits and `_`, at most 32 in all, and no
-/// keyword (`docs/language.md`, "Names").
+/// A name of the cell language, seen as its bytes: a letter or `_`, then letters, digits and `_`, at most 32 in all, and no
+/// keyword (`docs/language.md`, "Names and keywords"). Its copies share one block of memory, so that a name that stands many
+/// times in a program takes a pointer each time.
 #[derive(Debug, Drop)]
 pub struct Name {
-    bytes: Vec<u8>,
+    shared: Rc<Vec<u8>>,
 }
 
 impl Model for Name {
     ghost Value = { List ℕ };
 
-    ghost view = { λ n. n.bytes.items };
+    ghost view = { λ n. n.shared.value.items };
 
-    ghost invariant = { λ n. IsName n.bytes.items };
+    ghost invariant = { λ n. IsName n.shared.value.items };
 }
 
 impl Name {
@@ -34,17 +36,18 @@ impl Name {
         if !is_name(bytes) {
             return Ok(None);
         }
+        let bytes = Vec::from_slice(alloc, bytes)?;
         Ok(Some(Name {
-            bytes: Vec::from_slice(alloc, bytes)?,
+            shared: Rc::new(alloc, bytes)?,
         }))
     }
 
-    /// An equal name.
-    pub fn copy(&self, alloc: Global) -> Result<Name, Memory>
+    /// An equal name, which shares the bytes.
+    pub fn copy(&self) -> Result<Name, Memory>
         ensures { IfOk result (λ name. name ≡ self.now) }
     {
         Ok(Name {
-            bytes: Vec::from_slice(alloc, self.bytes.as_slice())?,
+            shared: self.shared.clone()?,
         })
     }
 
@@ -53,7 +56,7 @@ impl Name {
         ensures bytes { result.now ≡ self.now }
         ensures name { IsName self.now }
     {
-        self.bytes.as_slice()
+        self.shared.as_slice()
     }
 }
 

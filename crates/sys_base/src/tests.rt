@@ -19,7 +19,7 @@ fn names(rt: HostRuntime) -> Result<(), Fail> {
         let name = Name::new(rt.alloc(), text.as_bytes()).ok().ok_or("memory")?;
         assert_eq!(rt; name.is_some(), is_name, "{text}");
         if let Some(name) = name {
-            let copy = name.copy(rt.alloc()).ok().ok_or("memory")?;
+            let copy = name.copy().ok().ok_or("memory")?;
             assert_eq!(rt; copy.bytes(), text.as_bytes());
         }
     }

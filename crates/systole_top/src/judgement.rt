@@ -11,6 +11,7 @@ use crate::read::read_file;
 use accept::{AcceptError, build, one_first_refusal};
 use refusals::Refusal;
 use std::alloc::Global;
+use std::mem::forget;
 use sys_base::Memory;
 use sys_outside::Shelf;
 
@@ -54,7 +55,11 @@ fn judge(alloc: Global, text: &[u8]) -> Result<Judgement, Memory>
 {
     one_first_refusal();
     match build(alloc, text) {
-        Ok(_) => Ok(Judgement::Accepted),
+        Ok(built) => {
+            // The program ends soon, and its memory with it: to free the many small parts one by one would take longer.
+            forget(built);
+            Ok(Judgement::Accepted)
+        }
         Err(AcceptError::Refused(refusal)) => Ok(Judgement::Refused(refusal)),
         Err(AcceptError::Memory) => Err(Memory),
     }

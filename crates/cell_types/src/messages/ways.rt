@@ -37,7 +37,7 @@ pub(super) fn resolve_message(
     let route = resolve_route(alloc, grid, ends, message)?;
     let label = resolve_label(message)?;
     Ok(Message {
-        name: message.name.copy(alloc)?,
+        name: message.name.copy()?,
         from: ends.from,
         to: ends.to,
         route,
@@ -60,12 +60,12 @@ fn resolve_route(
 {
     match route_of(alloc, grid, ends.from, ends.to, message.route.as_slice()) {
         Ok(links) => Ok(Items::from_vec(links)),
-        Err(error) => Err(route_fault(alloc, message, error)),
+        Err(error) => Err(route_fault(message, error)),
     }
 }
 
 /// A fault of a message's route.
-fn route_fault(alloc: Global, message: &MessageDecl, error: RouteError) -> StaticError
+fn route_fault(message: &MessageDecl, error: RouteError) -> StaticError
     ensures { IsFirst (route_faults message.now.name message.now.line (walked_with error)) result }
 {
     let error = match error {
@@ -74,7 +74,7 @@ fn route_fault(alloc: Global, message: &MessageDecl, error: RouteError) -> Stati
         RouteError::WrongEnd => RouteFault::WrongEnd,
         RouteError::Memory => return StaticError::Memory,
     };
-    match message.name.copy(alloc) {
+    match message.name.copy() {
         Ok(name) => StaticError::Route {
             name,
             error,

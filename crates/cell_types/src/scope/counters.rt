@@ -9,7 +9,6 @@ ghost use Rattle.cell_types.specs.declared.error.What.TheVariants as W;
 use super::Scope;
 use crate::error::StaticError;
 use crate::variables::twice;
-use std::alloc::Global;
 use sys_base::{Limit, Memory, Name};
 
 /// The most turns of a loop.
@@ -19,7 +18,6 @@ impl<'a> Scope<'a> {
     /// Goes into a loop on this line, and gives how many loops are around it.
     pub(crate) fn enter(
         &mut self,
-        alloc: Global,
         line: u32,
         counter: &'a Name,
         turns: u64,
@@ -31,7 +29,7 @@ impl<'a> Scope<'a> {
     {
         let depth = self.counters.len() as u8;
         if !self.add_counter(counter)? {
-            return Err(twice(alloc, counter, line)?);
+            return Err(twice(counter, line)?);
         }
         if turns > TURNS {
             return Err(StaticError::Limit {

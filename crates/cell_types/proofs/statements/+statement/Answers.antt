@@ -59,7 +59,7 @@ resolve_act-returns-in_ok-no-in-If-clause-action t c =
 pub resolve_block-returns-in_err-act-clause-block :
     goal.resolve_block-returns-in_err-act-clause-block
 resolve_block-returns-in_err-act-clause-block t c =
-    stops_with (λ typed. block_of typed.items) _ _ c.from_residual.result _ c.from_residual.ensures.1
+    stops_with (λ typed. block_of typed.items) _ _ c.from_residual-in_err-act.result _ c.from_residual-in_err-act.ensures.1
     (block_stop (scope_in c.args.scope.now) c.args.body.now c.loop-statement.statement-index _ _ c.loop-statement.invariant
     c.statement-item.result c.loop-statement-test.true c.statement-item.is _ c.in_err-act.ensures.action)
 
