@@ -4,49 +4,54 @@ ghost use Rattle.cell_types.specs.declared.error.StaticError.TheVariants as E;
 use std::alloc::{AllocError, AllocFailed};
 use sys_base::{Limit, Memory, Name};
 
-/// The first thing that is wrong with a source whose grammar is right, or want of memory. Each `line` is that of the
-/// declaration or the statement at fault, from 1.
+/// The first thing that is wrong with a source whose grammar is right (`docs/refusals.md`, "Statics, in file order"),
+/// or want of memory.
+///
+/// Each `line` is that of the declaration or the statement at fault, as the syntax tree has it; lines count from 1
+/// (`docs/language.md`, "Tokens"). In what `resolve` gives, the index of a cell is below the number of cells, and the
+/// id of a link below four times that number.
 #[derive(Debug, Drop)]
 pub enum StaticError {
-    /// E10: a number outside a limit of the language.
+    /// E10: a number is outside a limit of the language, or a declaration is the first too many (`docs/language.md`,
+    /// "Limits").
     Limit {
         limit: Limit,
         line: u32,
     },
-    /// E11: a second declaration.
+    /// E11: a link, a cell or a name is declared that is declared already.
     Twice {
         what: What,
         line: u32,
     },
-    /// E12: a cell or a link outside the grid.
+    /// E12: a cell is outside the grid, or a `link` line names no link of it.
     OutsideGrid {
         line: u32,
     },
-    /// E13: a message whose sender is its receiver.
+    /// E13: the sender of the message `name` is its receiver.
     SelfMessage {
         name: Name,
         line: u32,
     },
-    /// E14: a name that nothing declares.
+    /// E14: a name means nothing at its place (`docs/language.md`, "Names and what they mean").
     Unknown {
         name: Name,
         line: u32,
     },
-    /// E16: a cell, by its index, that writes a message which it does not send (`sends`), or reads one which it does not
-    /// receive.
+    /// E16: where `sends`, a cell writes the message `name` and does not send it; else it reads the message and does
+    /// not receive it. The cell is given by its index.
     WrongEnd {
         name: Name,
         cell: u16,
         sends: bool,
         line: u32,
     },
-    /// E17: a name of another kind than the one that is wanted.
+    /// E17: a name is of another kind, `found`, than the one that is wanted at its place.
     WrongKind {
         name: Name,
         found: Found,
         line: u32,
     },
-    /// E18, E19 and E20: the first fault in the walk of a message's route.
+    /// E18, E19 and E20: the first fault in the walk of the route of the message `name`.
     Route {
         name: Name,
         error: RouteFault,
@@ -59,7 +64,7 @@ pub enum StaticError {
 /// What is declared twice.
 #[derive(Debug, Drop)]
 pub enum What {
-    /// A message, a variable or a counter, by its name.
+    /// A variable, an array, a counter or a message, by its name.
     Named(Name),
     /// A cell, by its index.
     Cell(u16),
@@ -76,14 +81,14 @@ pub enum Found {
     Counter,
 }
 
-/// Why directions are no route.
+/// The first fault in the walk of a route (`docs/model.md`, "Routes").
 #[derive(Clone, Copy, Debug, PartialEq, Eq)]
 pub enum RouteFault {
-    /// A direction has no link where the walk has come to.
+    /// E18: a direction has no link where the walk has come to.
     LeavesGrid,
-    /// The walk goes over a link, by its id, that it has used before.
+    /// E20: the walk goes over a link, by its id, that it has used before.
     LinkTwice { link: u16 },
-    /// The walk ends at another cell than the receiver.
+    /// E19: the walk ends at another cell than the receiver.
     WrongEnd,
 }
 

@@ -7,30 +7,42 @@ use sqlite_items::Items;
 use std::marker::Model;
 use sys_base::{Grid, Name};
 
-/// A message from one cell to another, both by their indices.
+/// A message from one cell to another one (`docs/model.md`, "Routes" and "Labels").
+///
+/// The ranges are those of a message of a `Program` (`specs/Sound.antt`, `IsSoundMessage`).
 #[derive(Debug, Drop)]
 pub struct Message {
+    /// Its name, which no other message of the program has.
     pub name: Name,
+    /// The index of the sender, below the number of cells.
     pub from: u16,
+    /// The index of the receiver, below the number of cells, and not that of the sender.
     pub to: u16,
-    /// The ids of the links from the sender to the receiver.
+    /// The ids of the links from the sender to the receiver, in order. There is at least one, none stands twice, and
+    /// each is below four times the number of cells.
     pub route: Items<u16>,
+    /// The label that the source gives it, 0 to 65,535; `None` exactly where the source gives it none.
     pub label: Option<u16>,
 }
 
-/// The program of one cell.
+/// The program of one cell (`docs/language.md`, "Names and what they mean"). A cell that the source does not declare
+/// has no words and no statements.
+///
+/// The ranges are those of a cell of a `Program` (`specs/Sound.antt`, `IsSoundCell`).
 #[derive(Debug, Drop)]
 pub struct Cell {
-    /// The words of its variables, at most 1024.
+    /// The number of words of its variables and arrays, 0 to 1,024.
     pub words: u16,
-    /// The most loops inside one another, at most 16.
+    /// The most loops inside one another, 0 to 16.
     pub counters: u8,
-    /// The deepest stack that an expression of it needs, at most 256.
+    /// The deepest stack that a statement of it needs, in values, 0 to 256 (`specs/Depth.antt`, `block_stack`).
     pub stack: u16,
+    /// Its statements, in order.
     pub body: Vec<TypedStmt>,
 }
 
-/// A source whose names are resolved and which has no static fault (`specs/Sound.antt`). It comes from `resolve` alone.
+/// A source whose names are resolved and which has no static fault (`docs/language.md`, "Names and what they mean";
+/// `specs/Sound.antt`). It comes from `resolve` alone.
 #[derive(Debug, Drop)]
 pub struct Program {
     grid: Grid,
@@ -75,7 +87,7 @@ impl Program {
         }
     }
 
-    /// The grid of cells.
+    /// The grid of cells, which has 1 to 16 rows and columns (`docs/model.md`, "The grid").
     pub fn grid(&self) -> Grid
         ensures grid { result ≡ self.now.grid }
         ensures sound { IsSound (plain self.now) }
@@ -83,7 +95,8 @@ impl Program {
         self.grid
     }
 
-    /// The queues of each link by its id, 1 to 32; 0 where the grid has no such link.
+    /// The number of queues of each link at the link's id, 1 to 32; 0 where the grid has no such link. There are four
+    /// ids for each cell.
     pub fn queues(&self) -> &[u8]
         ensures queues { result.now ≡ self.now.queues }
         ensures sound { IsSound (plain self.now) }
@@ -91,7 +104,7 @@ impl Program {
         self.queues.as_slice()
     }
 
-    /// The messages in order, at most 512.
+    /// The messages in the order of declaration, at most 512. The index of a message is its place here, from 0.
     pub fn messages(&self) -> &[Message]
         ensures messages { result.now ≡ self.now.messages }
         ensures sound { IsSound (plain self.now) }
@@ -99,7 +112,7 @@ impl Program {
         self.messages.as_slice()
     }
 
-    /// The cells by their indices, one for each cell of the grid.
+    /// The cells at their indices, one for each cell of the grid, so 1 to 256.
     pub fn cells(&self) -> &[Cell]
         ensures cells { result.now ≡ self.now.cells }
         ensures sound { IsSound (plain self.now) }
@@ -107,7 +120,7 @@ impl Program {
         self.cells.as_slice()
     }
 
-    /// The buffer, which is 0.
+    /// The buffer, which is always 0.
     pub fn buffer(&self) -> u8
         ensures buffer { result ≡ self.now.buffer }
         ensures sound { IsSound (plain self.now) }

@@ -19,9 +19,11 @@ use sys_base::{Grid, Limit};
 /// The most rows, and the most columns, of a grid.
 const SIDE: u64 = 16;
 
-/// The program of a printable source: its names resolved, its routes and queues filled in.
+/// The program of a printable source: its names resolved, its routes and queues filled in (`docs/language.md`,
+/// "Canonical text" and "Names and what they mean").
 ///
-/// An error is the first fault of the source in file order, or `Memory`, which may come for any source.
+/// An error is the first fault of the source in file order (`docs/refusals.md`, "Statics, in file order"), or `Memory`,
+/// which may come for any source.
 pub fn resolve(alloc: Global, source: Source) -> Result<Program, StaticError>
     requires printable { IsPrintable source }
     ensures program { IfOk result (λ p. (faults source ≡ []) × (plain p ≡ program_of source)) }

@@ -8,9 +8,10 @@ use cell_types::{Program, TypedAct, TypedExpr, TypedStmt};
 /// The most steps that the cells of a program may take together.
 const MOST: u64 = 4_194_304;
 
-/// The steps that the cells of a program take at most, all together; `None` exactly above 4,194,304.
+/// The cost of all cells of a program together, in steps, 0 to 4,194,304 (`docs/model.md`, "Cost"); `None` exactly
+/// where it is more.
 ///
-/// It takes no memory, and passes over the body of each loop once.
+/// It takes no memory, and passes over the body of each loop once at most.
 pub fn cost(program: &Program) -> Option<u32>
     ensures { IsLimited (cells_cost (plain program.now)) result }
 {

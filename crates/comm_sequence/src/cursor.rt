@@ -3,7 +3,9 @@ ghost use Rattle.std.specs.Prelude.{◌≡◌, [], ◌∷◌, MatchOption};
 use crate::comm::Comm;
 use std::marker::Model;
 
-/// What is left of the writes and reads of a cell.
+/// What is left of the list of a cell: its writes and reads, in order (`docs/model.md`, "Lists").
+///
+/// It comes from `Seqs::cursor` alone, so the index of a message is below the number of messages there.
 #[derive(Debug, Drop)]
 pub struct Cursor<'a> {
     left: &'a [Comm],
@@ -30,7 +32,7 @@ impl<'a> Cursor<'a> {
         Cursor { left }
     }
 
-    /// The first write or read that is left, which it passes; `None` exactly at the end.
+    /// The first write or read that is left, which it passes; `None` exactly at the end, where it stays.
     pub fn next(&mut self) -> Option<Comm>
         ensures { MatchOption result ((self.old ≡ []) × (self.new ≡ [])) (λ first. self.old ≡ first ∷ self.new) }
     {

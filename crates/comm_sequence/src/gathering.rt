@@ -125,11 +125,15 @@ pub fn ends_of(alloc: Global, messages: &[Message]) -> Result<Vec<(u16, u16)>, A
         .collect(alloc)
 }
 
-/// What the cells of a program communicate, or the first `if` whose arms communicate differently: in the least cell, of the `if`s
-/// that stand in no loop of 0 turns, the one whose last closing brace stands first.
+/// What the cells of a program communicate (`docs/model.md`, "Lists"). The cost of all its cells has to be at most
+/// 4,194,304 steps, as it is where `cost` gives it.
 ///
-/// A loop's body is unrolled once and then copied, and an `if` is compared once: a communication is compared at most once for
-/// each `if` around it, of which there are at most 16. So the time is linear in the cost of the program.
+/// An error is the first `if` whose arms communicate differently, or `Memory`, which may come for any program. Of such
+/// `if`s that stand in no loop of 0 turns the first one is, in the least cell that has one, the one whose last closing
+/// brace stands first (E15 in `docs/refusals.md`, "Refusals").
+///
+/// A loop's body is unrolled once and then copied, and an `if` is compared once: a communication is compared at most
+/// once for each `if` around it, of which there are at most 16. So the time is linear in the cost of the program.
 pub fn sequences(alloc: Global, program: &Program) -> Result<Seqs, CommError>
     requires cost { cells_cost (plain program.now) ≤ 4194304 }
     ensures sequences { IfOk result (λ s. Alike (plain program.now) × (s ≡ sequences_of (plain program.now))) }

@@ -6,7 +6,11 @@ use crate::cursor::Cursor;
 use sqlite_items::Items;
 use std::marker::Model;
 
-/// What the cells of a program write and read, the lengths of its messages, and how many words its cells take and emit.
+/// What the cells of a program write and read, the lengths of its messages, and how many words its cells take and emit
+/// (`docs/model.md`, "Lists").
+///
+/// There are at most 256 cells and 512 messages, and at most 4,194,304 writes and reads in all lists together. A
+/// message goes from one cell to another one; only its sender writes it, and only its receiver reads it.
 #[derive(Debug, Drop)]
 pub struct Seqs {
     lists: Items<Items<Comm>>,
@@ -52,7 +56,7 @@ impl Seqs {
         }
     }
 
-    /// The writes and reads of a cell, by its index, from the first on.
+    /// The writes and reads of a cell, from the first on. The cell's index is below `cells()`.
     pub fn cursor(&self, cell: u16) -> Cursor<'_>
         requires { cell < length self.now.lists }
         ensures list { result ≡ slice_index_or self.now.lists cell [] }
@@ -61,7 +65,8 @@ impl Seqs {
         Cursor::new(self.lists.as_slice()[cell as usize].as_slice())
     }
 
-    /// The number of writes of a message, by its index.
+    /// The length of a message in words, which is its number of writes, 0 to 4,194,304. The message's index is below
+    /// `messages()`.
     pub fn length(&self, message: u16) -> u32
         requires { message < length self.now.ends }
         ensures length { result ≡ slice_index self.now.lengths message }
@@ -70,7 +75,7 @@ impl Seqs {
         self.lengths.as_slice()[message as usize]
     }
 
-    /// How many input words a cell takes, by its index.
+    /// How many input words a cell takes. The cell's index is below `cells()`.
     pub fn takes(&self, cell: u16) -> u32
         requires { cell < length self.now.lists }
         ensures takes { result ≡ slice_index self.now.takes cell }
@@ -79,7 +84,7 @@ impl Seqs {
         self.takes.as_slice()[cell as usize]
     }
 
-    /// How many output words a cell emits, by its index.
+    /// How many output words a cell emits. The cell's index is below `cells()`.
     pub fn emits(&self, cell: u16) -> u32
         requires { cell < length self.now.lists }
         ensures emits { result ≡ slice_index self.now.emits cell }
@@ -88,7 +93,8 @@ impl Seqs {
         self.emits.as_slice()[cell as usize]
     }
 
-    /// The sender and the receiver of a message, by its index.
+    /// The sender and the receiver of a message: two different cells, by their indices, which are below `cells()`. The
+    /// message's index is below `messages()`.
     pub fn ends(&self, message: u16) -> (u16, u16)
         requires { message < length self.now.ends }
         ensures ends { slice_get self.now.ends message ≡ Some result }
@@ -97,7 +103,7 @@ impl Seqs {
         self.ends.as_slice()[message as usize]
     }
 
-    /// The number of cells.
+    /// The number of cells, at most 256.
     pub fn cells(&self) -> u16
         ensures cells { result ≡ length self.now.lists }
         ensures kept { IsSequences self.now }
@@ -105,7 +111,7 @@ impl Seqs {
         self.lists.len() as u16
     }
 
-    /// The number of messages.
+    /// The number of messages, at most 512.
     pub fn messages(&self) -> u16
         ensures messages { result ≡ length self.now.ends }
         ensures kept { IsSequences self.now }

@@ -10,33 +10,43 @@ use comm_sequence::{Comm, Seqs};
 use std::alloc::Global;
 use sys_base::Memory;
 
-/// A cell with something left, its first operation there, and the cell that it waits for: the other end of the operation's
-/// message.
+/// A cell with something left, and the cell that it waits for (`docs/model.md`, "The walk of a refusal").
+///
+/// The ranges are those of a wait in what `walk` gives.
 #[derive(Clone, Copy, Debug, PartialEq, Eq)]
 pub struct Wait {
+    /// The index of the cell that waits, below the number of cells.
     pub cell: u16,
+    /// The first operation that is left in its list.
     pub front: Comm,
+    /// The index of the cell that it waits for, below the number of cells: the receiver of a message that it is to
+    /// write, the sender of one that it is to read.
     pub partner: u16,
 }
 
-/// Where a walk ends: at a cell that it has already visited, or at one with nothing left.
+/// Where a walk ends: at the cell that its last wait waits for, by the cell's index, which is below the number of cells
+/// in what `walk` gives.
 #[derive(Clone, Copy, Debug, PartialEq, Eq)]
 pub enum WalkEnd {
+    /// The walk has already visited this cell.
     Again(u16),
+    /// This cell has nothing left.
     NothingLeft(u16),
 }
 
-/// The cells that a walk visits, in its order, and where it ends.
+/// The cells that a walk visits, in its order, and where it ends. What `walk` gives has one wait at least, and no cell
+/// waits in it twice.
 #[derive(Debug, Drop)]
 pub struct WaitWalk {
     pub waits: Vec<Wait>,
     pub end: WalkEnd,
 }
 
-/// Walks from the least cell with something left to the cell that it waits for, and on from there, up to the first cell that it
-/// has already visited or that has nothing left.
+/// Walks from the least cell with something left to the cell that it waits for, and on from there, up to the first cell
+/// that it has already visited or that has nothing left (`docs/model.md`, "The walk of a refusal").
 ///
-/// The residue is that of these sequences, with something left in it. The only error is want of memory.
+/// The residue is that of these sequences, with something left in it. The only error is want of memory, which may come
+/// for any residue.
 ///
 /// It visits each cell once at most, and its time is linear in the number of cells.
 pub fn walk(alloc: Global, seqs: &Seqs, residue: &Residue) -> Result<WaitWalk, Memory>

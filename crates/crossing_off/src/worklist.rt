@@ -122,10 +122,11 @@ fn wait_for(waiting: &mut BTreeSet<u16>, front: Option<Comm>) -> Result<(), Memo
     Ok(())
 }
 
-/// Crosses off the least message that can be crossed, again and again.
+/// Crosses off the least message that can be crossed, by its index, again and again (`docs/model.md`, "Crossing-off").
 ///
 /// `Empty` has the crossed messages in order, which are a crossing order; `Left` comes exactly where no crossing order
-/// of any kind exists. The only error is want of memory.
+/// of any kind exists. A message is given by its index, below `seqs.messages()`, and a cell by its own, below
+/// `seqs.cells()`. The only error is want of memory, which may come for any `seqs`.
 ///
 /// The time is linear in the number of operations, but for a logarithm of the number of messages.
 pub fn cross(alloc: Global, seqs: &Seqs) -> Result<Crossed, Memory>

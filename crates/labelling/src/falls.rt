@@ -6,20 +6,28 @@ ghost use Rattle.labelling.specs.Falls.{FallsAt, IsFall, NeverFalls, NoFallBefor
 
 use comm_sequence::{Cursor, Seqs};
 
-/// Where a label falls: in the list of the cell with this index, the operation at the place `at`, from 0, is on the message
-/// `after`, whose label is below that of `before`, the message of the operation just before it.
+/// Where a label falls (`docs/model.md`, "Labels"): in the list of a cell, the label of an operation's message is below
+/// that of the message of the operation just before it.
+///
+/// The ranges are those of a fall that `check` gives.
 #[derive(Clone, Copy, Debug, PartialEq, Eq)]
 pub struct Fall {
+    /// The index of the cell, below the number of cells.
     pub cell: u16,
+    /// The place of the later operation in the cell's list, counted from 0; it is 1 to 4,194,303.
     pub at: u32,
+    /// The index of the earlier operation's message, below the number of messages.
     pub before: u16,
+    /// The index of the later operation's message, below the number of messages.
     pub after: u16,
 }
 
-/// The first fall of the least cell that has one, where each message has the label at its index; `None` exactly where the
-/// labels are consistent: where in each cell's list the label of each message is at most that of the next one.
+/// The first fall of the least cell that has one (`docs/model.md`, "Labels"); `None` exactly where the labels are
+/// consistent: where in each cell's list the label of each message is at most that of the next one.
 ///
-/// It passes over the lists once, and takes no memory.
+/// `labels` has one label for each message of `seqs`, at the message's index.
+///
+/// It passes over the lists once at most, and takes no memory.
 pub fn check(seqs: &Seqs, labels: &[u16]) -> Option<Fall>
     requires { length labels.now ≡ length seqs.now.ends }
     ensures fall { IfSome result (IsFall seqs.now.lists labels.now) }

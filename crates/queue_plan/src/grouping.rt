@@ -13,10 +13,15 @@ use sqlite_items::Items;
 use std::alloc::{AllocError, Global};
 use sys_base::Memory;
 
-/// The groups of each link of a program, by the labels and the lengths of its messages: the messages of one label and of length
-/// at least 1 whose routes use the link. The only error is want of memory.
+/// The groups of each link of a program (`docs/model.md`, "Groups and queues"): the messages of one label and of length
+/// at least 1 whose routes use the link.
 ///
-/// The time is linear in the number of links and the total length of the routes, but for a logarithm of the number of messages.
+/// `labels` and `lengths` have the label and the length of each message, at the message's index; a length is in words.
+/// The id of a link is below four times the number of the program's cells. The only error is want of memory, which may
+/// come for any arguments.
+///
+/// The time is linear in the number of links and the total length of the routes, but for a logarithm of the number of
+/// messages.
 pub fn group(
     alloc: Global,
     program: &Program,

@@ -10,7 +10,11 @@ use cell_types::Program;
 use sqlite_items::Items;
 use std::marker::Model;
 
-/// The groups of each link by its id: the messages of one label that use the link, in rising order of label.
+/// The groups of each link: the messages of one label that use the link (`docs/model.md`, "Groups and queues").
+///
+/// A link is given by its id, which is below four times the number of cells (`docs/model.md`, "The grid"), so at most
+/// 1,023. It has at most 512 groups, in rising order of label. A group has 1 to 512 members: messages by their indices,
+/// in rising order.
 #[derive(Debug, Drop)]
 pub struct Groups {
     links: Items<Items<Group>>,
@@ -39,7 +43,8 @@ impl Groups {
         Groups { links }
     }
 
-    /// How many queues a link needs: the size of its largest group, 0 where it has none.
+    /// How many queues a link needs, by its id: the size of its largest group, at most 512. It is 0 exactly where the
+    /// link has no group.
     pub fn need(&self, link: u16) -> u16
         requires { link < length self.now }
         ensures need { result ≡ greatest (map (λ group. length group.1) (groups_at self.now link)) }
@@ -55,7 +60,7 @@ impl Groups {
     /// The first group, by link and then by label, that has more members than its link has queues; `None` exactly where
     /// all groups fit.
     ///
-    /// The program is the one whose groups these are.
+    /// The program is meant to be the one whose groups these are; it has to have as many links.
     pub fn lack(&self, program: &Program) -> Option<Lack>
         requires { length self.now ≡ length program.now.queues }
         ensures lack { result ≡ slice_get (lacks self.now program.now.queues) 0 }
@@ -71,7 +76,8 @@ impl Groups {
         None
     }
 
-    /// The label of a link's group at a place, from 0; `None` exactly where the link has no more groups.
+    /// The label of a link's group, by the link's id and the group's place there, from 0; `None` exactly where the link
+    /// has no more groups.
     pub fn label(&self, link: u16, place: u16) -> Option<u16>
         requires { link < length self.now }
         ensures label { result ≡ option_map (λ group. group.0) (slice_get (groups_at self.now link) place) }
@@ -81,7 +87,8 @@ impl Groups {
         Some(groups.get(usize::from(place))?.label())
     }
 
-    /// The members of a link's group at a place, from 0, in rising order; empty exactly where the link has no more groups.
+    /// The members of a link's group, by the link's id and the group's place there, from 0: messages by their indices,
+    /// in rising order. There are none exactly where the link has no more groups.
     pub fn members(&self, link: u16, place: u16) -> &[u16]
         requires { link < length self.now }
         ensures members { result.now ≡ option_map_or (λ group. group.1) (slice_get (groups_at self.now link) place) [] }

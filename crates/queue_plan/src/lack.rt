@@ -3,16 +3,18 @@ ghost use Rattle.queue_plan.specs.Lacks.{lack_of};
 
 use crate::labelled::Group;
 
-/// A group that has more members than its link has queues.
+/// A group that has more members than its link has queues (`docs/model.md`, "Groups and queues").
+///
+/// The ranges are those of what `Groups::lack` gives.
 #[derive(Clone, Copy, Debug, PartialEq, Eq)]
 pub struct Lack {
-    /// The id of the link.
+    /// The id of the link, below four times the number of cells.
     pub link: u16,
     /// The label of the group.
     pub label: u16,
-    /// The number of the group's members, 2 to 512.
+    /// The number of the group's members, more than `has` and at most 512.
     pub need: u16,
-    /// The queues of the link, fewer than `need`.
+    /// The queues of the link, at most 32 and fewer than `need`.
     pub has: u8,
 }
 
