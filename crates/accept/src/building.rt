@@ -18,7 +18,7 @@ use refusals::Refusal;
 use std::alloc::Global;
 
 /// The most bytes that a source has.
-const SOURCE_BYTES: usize = 1_048_576;
+pub const SOURCE_BYTES: usize = 1_048_576;
 
 /// Why nothing is made of a source.
 #[derive(Debug, Drop)]

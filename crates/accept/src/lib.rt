@@ -12,7 +12,7 @@ mod static_faults;
 mod steps;
 mod walks;
 
-pub use building::{AcceptError, Built, build};
+pub use building::{AcceptError, Built, SOURCE_BYTES, build};
 pub use laws::one_first_refusal;
 
 #[cfg(test)]

@@ -5,7 +5,7 @@ use Rattle.systole_top.specs.Shape.{Shape, Check, Explain}
 use Rattle.systole_top.specs.Tree.{Tree, Gives, Says, Reads, Picks, then_, Tries, Asks}
 use Rattle.systole_top.specs.declared.judgement.Judgement.{Judgement}
 use Rattle.systole_top.specs.declared.judgement.Judgement.TheVariants.{Accepted, Refused}
-use Rattle.systole_top.specs.declared.judgement.TheConstants.{SOURCE_BYTES}
+use Rattle.accept.specs.declared.building.TheConstants.{SOURCE_BYTES}
 
 -- what is read is asked for
 pub asks_tries : {A : Type 0} (held : List ℕ → Option (List ℕ)) (These : List ℕ → Type 0) (t : Tree A) (wanted : List ℕ) → Asks These t → Tries held t wanted → These wanted

@@ -19,7 +19,7 @@ use Rattle.systole_top.specs.Tree.{Tree, Gives, within, Replies, then_}
 use Rattle.systole_top.specs.declared.answer.Verdict.TheVariants as Verdict
 use Rattle.systole_top.specs.declared.judgement.Judgement.{Judgement}
 use Rattle.systole_top.specs.declared.judgement.Judgement.TheVariants.{Accepted, Refused}
-use Rattle.systole_top.specs.declared.judgement.TheConstants.{SOURCE_BYTES}
+use Rattle.accept.specs.declared.building.TheConstants.{SOURCE_BYTES}
 use Rattle.systole_top.specs.declared.status.Status.{Status}
 use Rattle.systole_top.proofs.Reading.{within-whole}
 

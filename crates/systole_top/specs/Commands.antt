@@ -8,7 +8,7 @@ use Rattle.systole_top.specs.Texts.{accepted_line, refusal_line}
 use Rattle.systole_top.specs.Tree.{Tree, Gives, Says, Reads, Picks, then_}
 use Rattle.systole_top.specs.declared.answer.Verdict.TheVariants as Verdict
 use Rattle.systole_top.specs.declared.judgement.Judgement.{Judgement}
-use Rattle.systole_top.specs.declared.judgement.TheConstants.{SOURCE_BYTES}
+use Rattle.accept.specs.declared.building.TheConstants.{SOURCE_BYTES}
 use Rattle.refusals.specs.declared.refusal.Refusal.{Refusal}
 
 -- ---- sources

@@ -8,15 +8,12 @@ ghost use Rattle.systole_top.specs.Stops.{bytes_of, ended};
 
 use crate::answer::Stop;
 use crate::read::read_file;
-use accept::{AcceptError, build, one_first_refusal};
+use accept::{AcceptError, SOURCE_BYTES, build, one_first_refusal};
 use refusals::Refusal;
 use std::alloc::Global;
 use std::mem::forget;
 use sys_base::Memory;
 use sys_outside::Shelf;
-
-/// The most bytes that a source has.
-pub const SOURCE_BYTES: usize = 1_048_576;
 
 /// What a source is found to be.
 #[derive(Debug, Drop)]
