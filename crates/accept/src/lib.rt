@@ -14,8 +14,3 @@ mod walks;
 
 pub use building::{AcceptError, Built, SOURCE_BYTES, build};
 pub use laws::one_first_refusal;
-
-#[cfg(test)]
-mod label_tests;
-#[cfg(test)]
-mod tests;

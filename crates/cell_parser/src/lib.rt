@@ -23,6 +23,3 @@ pub use laws_printed::{
     printed_text_reads_back, read_is_printable,
 };
 pub use parsing::parse;
-
-#[cfg(test)]
-mod tests;

@@ -23,6 +23,3 @@ pub use expression::TypedExpr;
 pub use program::{Cell, Message, Program};
 pub use resolving::resolve;
 pub use statement::{TypedAct, TypedStmt};
-
-#[cfg(test)]
-mod tests;

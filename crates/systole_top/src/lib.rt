@@ -9,8 +9,6 @@ mod judgement;
 mod read;
 mod say;
 mod status;
-#[cfg(test)]
-mod tests;
 mod top;
 mod words;
 

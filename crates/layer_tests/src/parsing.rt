@@ -1,5 +1,5 @@
-use crate::{ParseError, parse};
 use cell_lexer::tokens;
+use cell_parser::{ParseError, parse};
 use cell_tree::print;
 use std::alloc::Global;
 use std::test::Fail;

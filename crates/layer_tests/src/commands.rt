@@ -1,7 +1,7 @@
-use crate::{Status, systole};
 use std::alloc::Global;
 use std::test::Fail;
 use sys_outside::{MemShelf, MemSink, SureShelf, SureSink};
+use systole_top::{Status, systole};
 
 fn words(alloc: Global, texts: &[&str]) -> Result<Vec<String>, Fail> {
     let mut words = Vec::new(alloc);

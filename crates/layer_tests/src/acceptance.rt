@@ -1,7 +1,7 @@
 ghost use Rattle.std.specs.Prelude.{IfOk, IsTrue};
 ghost use Rattle.refusals.specs.Texts.{is_kind_known};
 
-use crate::{AcceptError, Built, build, one_first_refusal};
+use accept::{AcceptError, Built, build, one_first_refusal};
 use refusals::{Refusal, explain, text};
 use std::alloc::{AllocGlobal, Global};
 use std::process::Abort;
@@ -64,8 +64,9 @@ fn costly(alloc: Global, last: &[u8]) -> Result<Vec<u8>, Fail> {
 #[test]
 fn accepts_programs(rt: HostRuntime) -> Result<(), Fail> {
     one_first_refusal();
-    let rows: [(&[u8], &[u16], u32); 5] = [
+    let rows: [(&[u8], &[u16], u32); 6] = [
         (b"array 1 x 1; queues 1;", &[], 0),
+        (b"array 16 x 16; queues 32;", &[], 0),
         (
             b"array 1 x 2; queues 1; message A from 0.0 to 0.1; message Z from 0.1 to 0.0;\n\
             cell 0.0 { write A 7; } cell 0.1 { var x; read A x; emit x; }",
@@ -149,7 +150,7 @@ fn refuses_at_the_limits(rt: HostRuntime) -> Result<(), Fail> {
 
 #[test]
 fn refuses_wrong_sources(rt: HostRuntime) -> Result<(), Fail> {
-    let rows: [(&[u8], &str); 18] = [
+    let rows: [(&[u8], &str); 23] = [
         (b"@", "E01 byte at 0 is not part of the language"),
         (b"", "E02 line 1 column 1: not expected here"),
         (
@@ -160,7 +161,18 @@ fn refuses_wrong_sources(rt: HostRuntime) -> Result<(), Fail> {
             b"array\nabcdefghijklmnopqrstuvwxyz_012345",
             "E04 line 2: the name has more than 32 bytes",
         ),
-        (b"array 17 x 1; queues 1;", "E10 line 1: rows are 1 to 16"),
+        (b"array 0 x 16; queues 1;", "E10 line 1: rows are 1 to 16"),
+        (b"array 17 x 17; queues 1;", "E10 line 1: rows are 1 to 16"),
+        (
+            b"array 16 x 0; queues 1;",
+            "E10 line 1: columns are 1 to 16",
+        ),
+        (
+            b"array 16 x 17; queues 1;",
+            "E10 line 1: columns are 1 to 16",
+        ),
+        (b"array 1 x 1; queues 0;", "E10 line 1: queues are 1 to 32"),
+        (b"array 1 x 1; queues 33;", "E10 line 1: queues are 1 to 32"),
         (
             b"array 1 x 2; queues 1; message A from 0.0 to 0.1; message A from 0.0 to 0.1;",
             "E11 line 1: A stands twice",
@@ -221,6 +233,33 @@ fn refuses_wrong_sources(rt: HostRuntime) -> Result<(), Fail> {
         expect(&rt, source, line)?;
     }
     Ok(())
+}
+
+/// A source of so many messages from the cell 0.0 to the cell 0.1, each with this label.
+fn declared(alloc: Global, count: u64, label: u64) -> Result<Vec<u8>, Fail> {
+    let mut source = Vec::from_slice(alloc, b"array 1 x 2; queues 32;")?;
+    for number in 0..count {
+        let line = format!(in alloc; " message m{number} from 0.0 to 0.1 label {label};")?;
+        source.extend_from_slice(line.as_bytes())?;
+    }
+    Ok(source)
+}
+
+#[test]
+fn counts_messages_and_labels(rt: HostRuntime) -> Result<(), Fail> {
+    let alloc = rt.alloc();
+    let most = accepted(alloc, &declared(alloc, 512, 65535)?)?;
+    assert_eq!(rt; most.labels.len(), 512);
+    expect(
+        &rt,
+        &declared(alloc, 513, 65535)?,
+        "E10 line 1: messages are at most 512",
+    )?;
+    expect(
+        &rt,
+        &declared(alloc, 1, 65536)?,
+        "E10 line 1: labels are 0 to 65535",
+    )
 }
 
 /// Two messages from one cell to the next, with what these texts say of their labels: the second stands between two words of

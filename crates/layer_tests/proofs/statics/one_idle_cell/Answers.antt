@@ -5,7 +5,7 @@ use Rattle.std.specs.Prelude.{codes, IsTrue}
 use Rattle.std.proofs.lemmas.Fmt.{decimal_digit}
 use Rattle.cell_tree.specs.Printable.{IsPrintable, runs_fit, braces_fit}
 use Rattle.cell_tree.specs.declared.source.Source.{Source}
-use Rattle.cell_types.proofs.tests.declarations.one_idle_cell.Goals as goal
+use Rattle.layer_tests.proofs.statics.one_idle_cell.Goals as goal
 
 -- a source of one cell, in which nothing else is declared
 abbrev idle : Source
@@ -40,4 +40,4 @@ printable = record {
 }
 
 pub resolve-requires : goal.resolve-requires
-resolve-requires g c = record { printable = subst IsPrintable (sym c.empty.ensures) printable }
+resolve-requires g c = record { printable = subst IsPrintable (sym c.idle.ensures) printable }

@@ -1,5 +1,5 @@
 //! Labels of worked sources.
-use crate::build;
+use accept::build;
 use comm_sequence::{Seqs, cost, sequences};
 use labelling::{Fall, check, propose};
 use std::alloc::Global;
