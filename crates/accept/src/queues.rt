@@ -16,9 +16,8 @@ use cell_types::Program;
 use comm_sequence::Seqs;
 use queue_plan::{Groups, Lack, group};
 use refusals::Refusal;
-use sqlite_items::Items;
 use std::alloc::Global;
-use sys_base::{Memory, Name};
+use sys_base::{Items, Memory, Name};
 
 /// The groups of the links, each with at most as many members as its link has queues; or the refusal of the first other one.
 pub fn fitting_groups(

@@ -8,9 +8,8 @@ ghost use Rattle.accept.specs.Told.{cell_name, kind_number, link_name, static_re
 use crate::places::{dir_of, place_of};
 use cell_types::{Found, RouteFault, StaticError, What};
 use refusals::{Refusal, cell_text, link_text};
-use sqlite_items::Items;
 use std::alloc::Global;
-use sys_base::{Memory, Name};
+use sys_base::{Items, Memory, Name};
 
 /// The refusal of a static fault of a source whose grid has so many columns; `Memory` also where the fault is want of memory.
 pub fn static_refusal(alloc: Global, cols: u64, fault: StaticError) -> Result<Refusal, Memory>

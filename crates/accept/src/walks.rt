@@ -14,9 +14,8 @@ use cell_types::Program;
 use comm_sequence::{Comm, Seqs};
 use crossing_off::{Residue, WaitWalk, WalkEnd, walk};
 use refusals::{Refusal, again_text, nothing_left_text, wait_text};
-use sqlite_items::Items;
 use std::alloc::Global;
-use sys_base::Memory;
+use sys_base::{Items, Memory};
 
 /// The refusal of a program that crossing-off leaves with this residue.
 pub fn stall(

@@ -13,7 +13,7 @@ use crate::parts::{label, length, place, route, setting};
 use crate::statement::body;
 use cell_lexer::{Key, Mark, Token};
 use cell_tree::{CellDecl, LinkDecl, MessageDecl, VarDecl};
-use sqlite_items::Items;
+use sys_base::Items;
 
 /// A `link` line behind its first word, which stands on this line of the text, and the tokens behind it.
 pub(crate) fn link<'a>(

@@ -11,9 +11,8 @@ use crate::cursor::{
 use crate::fault::Fault;
 use cell_lexer::{Key, Mark, Token};
 use cell_tree::Place;
-use sqlite_items::Items;
 use std::alloc::Global;
-use sys_base::Dir;
+use sys_base::{Dir, Items};
 
 /// A number and a semicolon that have to come first, and the tokens behind them.
 pub(crate) fn setting(tokens: &[Token]) -> Result<(u64, &[Token]), Fault>

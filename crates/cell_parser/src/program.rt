@@ -12,8 +12,8 @@ use crate::names::Names;
 use crate::parts::setting;
 use cell_lexer::{Key, Token};
 use cell_tree::{CellDecl, LinkDecl, MessageDecl, Source};
-use sqlite_items::Items;
 use std::alloc::Global;
+use sys_base::Items;
 
 /// The source that the tokens are.
 pub(crate) fn program(alloc: Global, text: &[u8], tokens: &[Token]) -> Result<Source, Fault>

@@ -12,8 +12,7 @@ use crate::fault::Fault;
 use crate::names::Names;
 use cell_lexer::{Key, Mark, Token};
 use cell_tree::{Act, Stmt};
-use sqlite_items::Items;
-use sys_base::Name;
+use sys_base::{Items, Name};
 
 /// Statements up to the brace that ends their block, and the tokens behind that.
 #[cycle(statement)]

@@ -1,6 +1,5 @@
 use crate::statement::Stmt;
-use sqlite_items::Items;
-use sys_base::{Dir, Name};
+use sys_base::{Dir, Items, Name};
 
 /// A row and a column, as they are written.
 #[derive(Clone, Copy, Debug, PartialEq, Eq)]

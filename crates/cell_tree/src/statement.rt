@@ -1,6 +1,5 @@
 use crate::expression::Expr;
-use sqlite_items::Items;
-use sys_base::Name;
+use sys_base::{Items, Name};
 
 /// A statement, and the line of its first token.
 #[cycle(statement)]

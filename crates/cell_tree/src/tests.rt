@@ -1,9 +1,9 @@
 use crate::print_expression::write_expression;
 use crate::{Act, CellDecl, Expr, LinkDecl, MessageDecl, Place, Source, Stmt, VarDecl, print};
-use sqlite_items::{Boxed, Items};
+use sqlite_items::Boxed;
 use std::alloc::Global;
 use std::test::Fail;
-use sys_base::{Dir, Name, Op};
+use sys_base::{Dir, Items, Name, Op};
 
 fn name(alloc: Global, text: &[u8]) -> Result<Name, Fail> {
     let name = Name::new(alloc, text)?.ok_or("no name")?;
@@ -243,8 +243,9 @@ fn receiver(alloc: Global) -> Result<Items<CellDecl>, Fail> {
 #[test]
 fn one_message(rt: HostRuntime) -> Result<(), Fail> {
     let alloc = rt.alloc();
-    let mut cells = sender(alloc)?;
-    cells.append(receiver(alloc)?)?;
+    let mut cells = sender(alloc)?.into_vec();
+    cells.append(&mut receiver(alloc)?.into_vec())?;
+    let cells = Items::from_vec(cells);
     let messages = message(alloc, Items::new(alloc), None)?;
     let text = print(alloc, &source(0, Items::new(alloc), messages, cells))?;
     let expected = "array 1 x 2;

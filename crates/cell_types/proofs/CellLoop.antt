@@ -1,9 +1,11 @@
 -- The steps of the loop over the declared cells.
-use Rattle.std.proofs.Common.{ℕ, ◌≡◌, ◌+◌, ◌<◌, ◌≤◌, Bool, true, false, cond, List, [], ◌∷◌, ◌++◌, Option, Some, None, length, map, take, set, get_or, find, nat_eq, refl, sym, ap, subst, ◌∙◌, ⊎_elim, eq-eqb, arith, append_assoc, ◌||◌}
+use Rattle.std.proofs.Common.{ℕ, ◌≡◌, ◌+◌, ◌<◌, ◌≤◌, Bool, true, false, cond, List, [], ◌∷◌, ◌++◌, Option, Some, None, length, map, replicate, take, set, get_or, find, nat_eq, refl, sym, ap, subst, ◌∙◌, ⊎_elim, eq-eqb, arith, append_assoc, ◌||◌}
 use Rattle.std.specs.List.{list_any}
 use Rattle.std.specs.Option.{option_or}
+use Rattle.std.specs.Prelude.{All}
 use Rattle.std.proofs.lemmas.Bool.{cases_eq, ne_eqb, or_right}
-use Rattle.std.proofs.lemmas.List.{take_more, take_all, length-set, get_or-set_same, get_or-set_other, get_or-map, length-map}
+use Rattle.std.proofs.lemmas.List.{take_more, take_all, length-append, length-set, get_or-set_same, get_or-set_other, get_or-map, get_or-replicate, get_or_at, length-map, length-replicate}
+use Rattle.std.proofs.lemmas.List.Elements.{All-get_or}
 use Rattle.std.proofs.lemmas.List.Folds.{find-append, list_any-append}
 use Rattle.std.proofs.lemmas.List.FromFn.{fill_by_all}
 use Rattle.std.proofs.lemmas.Simd.{map-map}
@@ -170,12 +172,55 @@ module _ (s : WrittenSource) where
             (λ k m. so.each k m ∙ ap (λ cs. cell_code s (declared_among (extent_of s) cs k)) all),
       )
 
--- a cell that is read, as plain data
-pub cell_read : (source : Source) (items : List CellDecl) (i : ℕ) (cell : CellDecl) → items ≡ source.cells → i < length items
-    → cell ≡ get_or items i cell
-    → (i < length (written source).cells) × (written_cell cell ≡ get_or (written source).cells i (written_cell cell))
-cell_read source items i cell same l e =
-    let below : i < length source.cells = subst (λ cs. i < length cs) same l in (
-      subst (λ n. i < n) (sym (length-map source.cells written_cell)) below,
-      ap written_cell (e ∙ ap (λ cs. get_or cs i cell) same) ∙ sym (get_or-map written_cell source.cells i cell (written_cell cell) below),
+-- The cells that were taken have no fault, and the marks and the programs are theirs, in each source with these cells.
+pub record CellsTaken (grid : Extent) (messages : List NamedMessage) (declared : List CellDecl) (marks : List Bool) (codes : List CellCode)
+    (taken left : List CellDecl) : Type 0 where
+  pub all : declared ≡ taken ++ left
+  pub marks_count : length marks ≡ cell_count grid
+  pub codes_count : length codes ≡ cell_count grid
+  pub so_far : (source : Source) → grid ≡ extent_of (written source) → source.cells ≡ declared
+      → messages ≡ map (named_message grid) source.messages → CellsSoFar (written source) marks codes (length taken)
+
+-- before the first
+pub none_taken : (grid : Extent) (messages : List NamedMessage) (declared left : List CellDecl) (count : ℕ) (marks : List Bool)
+    (codes : List CellCode) → count ≡ cell_count grid → left ≡ declared → marks ≡ replicate count false
+    → codes ≡ replicate count (cell_with 0 End) → CellsTaken grid messages declared marks codes [] left
+none_taken grid messages declared left count marks codes counted all no_marks no_codes =
+    let marks_size : length marks ≡ cell_count grid = ap length no_marks ∙ length-replicate count false ∙ counted in
+    let codes_size : length codes ≡ cell_count grid = ap length no_codes ∙ length-replicate count (cell_with 0 End) ∙ counted in
+    let none_marked : (k : ℕ) → k < cell_count grid → get_or marks k false ≡ false =
+    λ k l. ap (λ ms. get_or ms k false) no_marks ∙ get_or-replicate count k false false (omega (arith, l, counted)) in
+    let none_coded : (k : ℕ) → k < cell_count grid → get_or codes k (cell_with 0 End) ≡ cell_with 0 End =
+    λ k l. ap (λ cs. get_or cs k (cell_with 0 End)) no_codes
+    ∙ get_or-replicate count k (cell_with 0 End) (cell_with 0 End) (omega (arith, l, counted)) in
+    record {
+      all = sym all;
+      marks_count = marks_size;
+      codes_count = codes_size;
+      so_far = λ source same _ _. record {
+        none = refl;
+        marked = record { size = marks_size ∙ ap cell_count same; each = λ k l. none_marked k (subst (λ g. k < cell_count g) (sym same) l) };
+        count = codes_size ∙ ap cell_count same;
+        each = λ k l. none_coded k (subst (λ g. k < cell_count g) (sym same) l);
+      };
+    }
+
+-- a cell that is taken, as plain data
+pub cell_taken : (source : Source) (declared taken rest : List CellDecl) (cell : CellDecl) → source.cells ≡ declared
+    → declared ≡ taken ++ cell ∷ rest
+    → (length taken < length (written source).cells)
+    × (written_cell cell ≡ get_or (written source).cells (length taken) (written_cell cell))
+cell_taken source declared taken rest cell same all =
+    let here : source.cells ≡ taken ++ cell ∷ rest = same ∙ all in
+    let below : length taken < length source.cells = omega (arith, ap length here, length-append taken (cell ∷ rest)) in (
+      subst (λ n. length taken < n) (sym (length-map source.cells written_cell)) below,
+      ap written_cell (sym (get_or_at taken cell rest cell (length taken) refl) ∙ ap (λ cs. get_or cs (length taken) cell) (sym here))
+          ∙ sym (get_or-map written_cell source.cells (length taken) cell (written_cell cell) below),
     )
+
+-- what holds of all declared cells holds of the one that is taken
+pub holds_of_taken : (P : CellDecl → Type 0) (declared taken rest : List CellDecl) (cell : CellDecl) → declared ≡ taken ++ cell ∷ rest
+    → All P declared → P cell
+holds_of_taken P declared taken rest cell all each =
+    subst P (get_or_at taken cell rest cell (length taken) refl)
+    (All-get_or P (taken ++ cell ∷ rest) (length taken) cell (omega (arith, length-append taken (cell ∷ rest))) (subst (All P) all each))

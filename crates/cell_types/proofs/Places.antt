@@ -3,11 +3,10 @@ use Rattle.std.proofs.Common.{ℕ, ◌≡◌, ◌+◌, ◌<◌, ◌≤◌, Bool,
 use Rattle.std.specs.List.{find, list_any, position_or_len}
 use Rattle.std.specs.Option.{option_map, option_and_then, option_copied, IfSome}
 use Rattle.std.proofs.lemmas.Option.{slice_get_past, slice_get-get_or}
-use Rattle.std.specs.Prelude.{slice_get, Result, Ok, Err, IfOk, IfErr}
-use Rattle.sys_base.specs.declared.memory.Memory.{Memory}
+use Rattle.std.specs.Prelude.{slice_get}
 use Rattle.std.proofs.lemmas.Bool.{lt-ltb}
 use Rattle.std.proofs.lemmas.Bool.Decides.{nat_tests}
-use Rattle.std.proofs.lemmas.List.{map_push, length_push}
+use Rattle.std.proofs.lemmas.List.{map_push}
 use Rattle.std.proofs.lemmas.Slice.Eq.{bytes_eq-Decides}
 use Rattle.cell_types.specs.Names.{NamedVariable}
 use Rattle.cell_types.specs.Scopes.{place_of, variable_with, variables_with}
@@ -91,13 +90,6 @@ variable_at_place (n ∷ ns) (s ∷ ss) name = by (bytes_eq n name) refl (variab
         ap (λ b. cond b (Some (variable_with n s)) (find (λ (v : NamedVariable). bytes_eq v.name name) (variables_with ns ss))) is
         ∙ h ∙ sym (ap (λ o. option_map (variable_with name) (option_and_then (slice_get (s ∷ ss)) o)) (place_further (λ m. bytes_eq m name) n ns is)
         ∙ ap (option_map (variable_with name)) (one_further s ss (place_of ns name)))
-
--- the number of names after one more may have been added
-pub few_more : (r : Result Bool Memory) (names after : List (List ℕ)) (name : List ℕ)
-    → IfOk r (λ new. after ≡ cond new (names ++ name ∷ []) names) → IfErr r (λ _. after ≡ names) → length names < 16 → length after ≤ 16
-few_more (Ok true) names after name more same few = omega (arith, ap length more, length_push names name)
-few_more (Ok false) names after name more same few = omega (arith, ap length more)
-few_more (Err e) names after name more same few = omega (arith, ap length same)
 
 -- the slot that is read at a place
 pub slot_got : (o : Option (Bor Slot)) (xs : List Slot) (i : ℕ) → is_some o ≡ nat_lt i (length xs)

@@ -55,7 +55,7 @@ scope_in scope =
       cell = scope.cell;
       messages = named_in scope.messages.now;
       variables = variables_in scope.variables;
-      counters = names_in scope.counters;
+      counters = scope.counters.items;
     }
 
 -- what a name means

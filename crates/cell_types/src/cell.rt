@@ -19,17 +19,18 @@ pub(crate) fn resolve_cell(
     alloc: Global,
     messages: &MessageTable,
     index: u16,
-    cell: &CellDecl,
+    cell: CellDecl,
 ) -> Result<Cell, StaticError>
-    requires stack { cell_stack cell.now ≤ 256 }
-    requires loops { cell_loops cell.now ≤ 16 }
-    ensures { Resolves (inner_faults (named_in messages.now) index cell.now) plain_cell
-        (inner_code (named_in messages.now) index cell.now) result }
+    requires stack { cell_stack cell ≤ 256 }
+    requires loops { cell_loops cell ≤ 16 }
+    ensures { Resolves (inner_faults (named_in messages.now) index cell) plain_cell
+        (inner_code (named_in messages.now) index cell) result }
 {
-    let variables = Variables::new(alloc, messages, cell.vars.as_slice())?;
+    let CellDecl { vars, body, .. } = cell;
+    let variables = Variables::new(alloc, messages, vars.as_slice())?;
     let words = variables.words;
     let mut scope = Scope::new(alloc, index, messages, variables);
-    let body = resolve_block(alloc, &mut scope, cell.body.as_slice())?;
+    let body = resolve_block(alloc, &mut scope, body)?;
     Ok(Cell {
         words,
         counters: block_loops(&body),

@@ -1,6 +1,7 @@
 ghost use Rattle.std.specs.Prelude.{◌≡◌, ◌<◌, ◌≤◌, true, [], ◌∷◌, List, All, length, map, replicate, slice_set, MatchResult, IfOk, IfErr};
 ghost use Rattle.sys_base.specs.Grid.{cell_count};
 ghost use Rattle.cell_tree.specs.Depth.{cell_stack, cell_loops};
+ghost use Rattle.cell_tree.specs.declared.source.Source.{Source};
 ghost use Rattle.cell_types.specs.Code.{End};
 ghost use Rattle.cell_types.specs.Declarations.{place_faults, HasMarks};
 ghost use Rattle.cell_types.specs.Faults.{faults_behind, cell_faults, IsFirst};
@@ -16,30 +17,28 @@ use crate::cell::resolve_cell;
 use crate::error::{StaticError, What};
 use crate::program::Cell;
 use crate::table::MessageTable;
-use cell_tree::{CellDecl, Source};
-use sqlite_items::Items;
+use cell_tree::CellDecl;
 use std::alloc::Global;
-use sys_base::Grid;
+use sys_base::{Grid, Items};
 
 /// The programs of all cells of the grid by their indices, or the first fault of the declared cells.
 pub(crate) fn resolve_cells(
     alloc: Global,
     grid: &Grid,
     messages: &MessageTable,
-    source: &Source,
+    declared: Items<CellDecl>,
 ) -> Result<Items<Cell>, StaticError>
-    requires grid { grid.now ≡ extent_of (written source.now) }
-    requires messages { named_in messages.now ≡ map (named_message grid.now) source.now.messages }
-    requires stack { All (λ cell. cell_stack cell ≤ 256) source.now.cells }
-    requires loops { All (λ cell. cell_loops cell ≤ 16) source.now.cells }
-    ensures { Resolves (faults_behind (cell_faults (written source.now)) [] (written source.now).cells)
-        (map plain_cell) (program_of source.now).cells result }
+    requires stack { All (λ cell. cell_stack cell ≤ 256) declared }
+    requires loops { All (λ cell. cell_loops cell ≤ 16) declared }
+    ensures { (source : Source) → grid.now ≡ extent_of (written source) → source.cells ≡ declared
+        → named_in messages.now ≡ map (named_message grid.now) source.messages
+        → Resolves (faults_behind (cell_faults (written source)) [] (written source).cells) (map plain_cell) (program_of source).cells result }
 {
     let count = usize::from(grid.cells());
-    let mut declared = vec![in alloc; false; count]?;
+    let mut marks = vec![in alloc; false; count]?;
     let mut cells = empty_cells(alloc, count)?;
-    for cell in source.cells.as_slice() {
-        let index = declare_cell(grid, &mut declared, cell)?;
+    for cell in declared.into_vec() {
+        let index = declare_cell(grid, &mut marks, &cell)?;
         cells[usize::from(index)] = resolve_cell(alloc, messages, index, cell)?;
     }
     Ok(Items::from_vec(cells))

@@ -15,17 +15,17 @@ pub(crate) fn resolve_expression(
     alloc: Global,
     scope: &Scope,
     line: u32,
-    expr: &Expr,
+    expr: Expr,
 ) -> Result<TypedExpr, StaticError>
-    ensures { Resolves (expression_faults (scope_in scope.now) line (written_expression expr.now)) expression_of
-        (resolved_expression (scope_in scope.now) (written_expression expr.now)) result }
+    ensures { Resolves (expression_faults (scope_in scope.now) line (written_expression expr)) expression_of
+        (resolved_expression (scope_in scope.now) (written_expression expr)) result }
 {
     match expr {
-        Expr::Number(number) => Ok(TypedExpr::Number(*number)),
-        Expr::Named(name) => scope.value(line, name),
+        Expr::Number(number) => Ok(TypedExpr::Number(number)),
+        Expr::Named(name) => scope.value(line, &name),
         Expr::At(name, index) => {
-            let (base, len) = scope.array(line, name)?;
-            let index = resolve_expression(alloc, scope, line, index.get())?;
+            let (base, len) = scope.array(line, &name)?;
+            let index = resolve_expression(alloc, scope, line, index.into_inner())?;
             Ok(TypedExpr::At {
                 base,
                 len,
@@ -33,13 +33,13 @@ pub(crate) fn resolve_expression(
             })
         }
         Expr::Negate(operand) => {
-            let operand = resolve_expression(alloc, scope, line, operand.get())?;
+            let operand = resolve_expression(alloc, scope, line, operand.into_inner())?;
             Ok(TypedExpr::Negate(Box::new(alloc, operand)?))
         }
         Expr::Binary(op, left, right) => {
-            let left = resolve_expression(alloc, scope, line, left.get())?;
-            let right = resolve_expression(alloc, scope, line, right.get())?;
-            Ok(TypedExpr::Binary(*op, Box::new(alloc, left)?, Box::new(alloc, right)?))
+            let left = resolve_expression(alloc, scope, line, left.into_inner())?;
+            let right = resolve_expression(alloc, scope, line, right.into_inner())?;
+            Ok(TypedExpr::Binary(op, Box::new(alloc, left)?, Box::new(alloc, right)?))
         }
     }
 }

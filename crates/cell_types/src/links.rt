@@ -10,9 +10,8 @@ ghost use Rattle.cell_types.specs.declared.error.StaticError.TheVariants as E;
 
 use crate::error::{StaticError, What};
 use cell_tree::LinkDecl;
-use sqlite_items::Items;
 use std::alloc::Global;
-use sys_base::{Dir, Grid, Limit};
+use sys_base::{Dir, Grid, Items, Limit};
 
 /// The most queues of a link.
 const QUEUES: u64 = 32;

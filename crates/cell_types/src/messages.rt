@@ -16,9 +16,8 @@ use crate::program::Message;
 use crate::table::{Ends, MessageTable};
 use crate::variables::twice;
 use cell_tree::MessageDecl;
-use sqlite_items::Items;
 use std::alloc::Global;
-use sys_base::{Grid, Limit};
+use sys_base::{Grid, Items, Limit};
 use ways::resolve_message;
 
 /// The most messages of a source.

@@ -1,4 +1,4 @@
-ghost use Rattle.std.specs.Prelude.{◌≡◌, ◌-◌, not, [], ◌∷◌, ◌++◌, length, take, is_some, if◌then◌else◌, IfOk, IfErr};
+ghost use Rattle.std.specs.Prelude.{◌≡◌, not, [], ◌∷◌, ◌++◌, length, is_some, if◌then◌else◌, IfOk};
 ghost use Rattle.cell_types.specs.Scopes.{names_in, place_of};
 
 use indexmap::IndexSet;
@@ -26,16 +26,8 @@ impl<'a> NameSet<'a> {
         ensures new { IfOk result (λ new. new ≡ not (is_some (place_of (names_in self.old) name.now))) }
         ensures names { IfOk result
             (λ new. names_in self.new ≡ (if new then names_in self.old ++ name.now ∷ [] else names_in self.old)) }
-        ensures kept { IfErr result (λ _. names_in self.new ≡ names_in self.old) }
     {
         Ok(self.names.insert(name.bytes())?)
-    }
-
-    /// Takes the last name away.
-    pub(crate) fn remove_last(&mut self)
-        ensures { names_in self.new ≡ take (length (names_in self.old) - 1) (names_in self.old) }
-    {
-        self.names.pop();
     }
 
     /// The place of the name.

@@ -3,9 +3,8 @@ ghost use Rattle.cell_types.specs.Sound.{IsSound};
 ghost use Rattle.cell_types.specs.Typed.{plain};
 
 use crate::statement::TypedStmt;
-use sqlite_items::Items;
 use std::marker::Model;
-use sys_base::{Grid, Name};
+use sys_base::{Grid, Items, Name};
 
 /// A message from one cell to another one (`docs/model.md`, "Routes" and "Labels").
 ///

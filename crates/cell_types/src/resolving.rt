@@ -33,8 +33,13 @@ pub fn resolve(alloc: Global, source: Source) -> Result<Program, StaticError>
     let grid = resolve_grid(&source)?;
     let usual = queue_count(source.queues, source.queues_line)?;
     let queues = all_queues(alloc, &grid, usual, source.links.as_slice())?;
-    let Messages { list, table } = resolve_messages(alloc, &grid, source.messages.as_slice())?;
-    let cells = resolve_cells(alloc, &grid, &table, &source)?;
+    let Source {
+        messages,
+        cells,
+        ..
+    } = source;
+    let Messages { list, table } = resolve_messages(alloc, &grid, messages.as_slice())?;
+    let cells = resolve_cells(alloc, &grid, &table, cells)?;
     Ok(Program::new(grid, queues, list, cells))
 }
 

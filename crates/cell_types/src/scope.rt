@@ -4,9 +4,9 @@ mod counters;
 mod meanings;
 mod naming;
 
-use crate::names::NameSet;
 use crate::table::{Entry, MessageTable};
 use crate::variables::Variables;
+use sys_base::Name;
 
 /// What statements at a place can name: all messages, the variables of their cell, and the counters of the loops around
 /// the place, the outermost first.
@@ -15,8 +15,8 @@ pub(crate) struct Scope<'a> {
     cell: u16,
     messages: &'a MessageTable<'a>,
     variables: Variables<'a>,
-    counters: NameSet<'a>,
-    ghost few: { length counters.names.keys ≤ 16 },
+    counters: Vec<Name>,
+    ghost few: { length counters.items ≤ 16 },
 }
 
 /// What a name means.

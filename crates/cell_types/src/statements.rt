@@ -13,24 +13,24 @@ use crate::scope::Scope;
 use crate::statement::{TypedAct, TypedStmt};
 use cell_tree::{Act, Expr, Stmt};
 use std::alloc::Global;
-use sys_base::Name;
+use sys_base::{Items, Name};
 
 /// The statements, their names resolved.
 #[cycle(statement)]
-pub(crate) fn resolve_block<'a>(
+pub(crate) fn resolve_block(
     alloc: Global,
-    scope: &mut Scope<'a>,
-    body: &'a [Stmt],
+    scope: &mut Scope,
+    body: Items<Stmt>,
 ) -> Result<Vec<TypedStmt>, StaticError>
-    requires { length (scope_in scope.old).counters + block_loops (resolved_block (scope_in scope.old) (written_block body.now)) ≤ 16 }
-    ensures block { Resolves (block_faults (scope_in scope.old) (written_block body.now)) (λ typed. block_of typed.items)
-        (resolved_block (scope_in scope.old) (written_block body.now)) result }
+    requires { length (scope_in scope.old).counters + block_loops (resolved_block (scope_in scope.old) (written_block body)) ≤ 16 }
+    ensures block { Resolves (block_faults (scope_in scope.old) (written_block body)) (λ typed. block_of typed.items)
+        (resolved_block (scope_in scope.old) (written_block body)) result }
     ensures scope { OnOk result (scope_in scope.new ≡ scope_in scope.old) }
 {
     let mut typed = Vec::with_capacity(alloc, body.len())?;
-    for statement in body {
-        let line = statement.line;
-        let act = resolve_act(alloc, scope, line, &statement.act)?;
+    for statement in body.into_vec() {
+        let Stmt { line, act } = statement;
+        let act = resolve_act(alloc, scope, line, act)?;
         typed.push(TypedStmt { line, act })?;
     }
     Ok(typed)
@@ -38,42 +38,42 @@ pub(crate) fn resolve_block<'a>(
 
 /// What a statement on this line does, its names resolved.
 #[cycle(statement)]
-fn resolve_act<'a>(
+fn resolve_act(
     alloc: Global,
-    scope: &mut Scope<'a>,
+    scope: &mut Scope,
     line: u32,
-    act: &'a Act,
+    act: Act,
 ) -> Result<TypedAct, StaticError>
-    requires { length (scope_in scope.old).counters + action_loops (resolved_action (scope_in scope.old) (written_action act.now)) ≤ 16 }
-    ensures action { Resolves (action_faults (scope_in scope.old) line (written_action act.now)) action_of
-        (resolved_action (scope_in scope.old) (written_action act.now)) result }
+    requires { length (scope_in scope.old).counters + action_loops (resolved_action (scope_in scope.old) (written_action act)) ≤ 16 }
+    ensures action { Resolves (action_faults (scope_in scope.old) line (written_action act)) action_of
+        (resolved_action (scope_in scope.old) (written_action act)) result }
     ensures scope { OnOk result (scope_in scope.new ≡ scope_in scope.old) }
 {
     match act {
-        Act::Set { name, value } => set(alloc, scope, line, name, value),
-        Act::SetAt { name, index, value } => set_at(alloc, scope, line, name, index, value),
-        Act::Write { message, value } => write(alloc, scope, line, message, value),
-        Act::Read { message, name } => read(scope, line, message, name),
-        Act::Take { name } => take(scope, line, name),
+        Act::Set { name, value } => set(alloc, scope, line, &name, value),
+        Act::SetAt { name, index, value } => set_at(alloc, scope, line, &name, index, value),
+        Act::Write { message, value } => write(alloc, scope, line, &message, value),
+        Act::Read { message, name } => read(scope, line, &message, &name),
+        Act::Take { name } => take(scope, line, &name),
         Act::Emit { value } => emit(alloc, scope, line, value),
         Act::For {
             counter,
             turns,
             body,
         } => {
-            let counter = scope.enter(line, counter, *turns)?;
-            let body = resolve_block(alloc, scope, body.as_slice())?;
+            let counter = scope.enter(line, counter, turns)?;
+            let body = resolve_block(alloc, scope, body)?;
             scope.leave();
             Ok(TypedAct::For {
                 counter,
-                turns: *turns,
+                turns,
                 body,
             })
         }
         Act::If { test, yes, no } => {
             let test = resolve_expression(alloc, scope, line, test)?;
-            let yes = resolve_block(alloc, scope, yes.as_slice())?;
-            let no = resolve_block(alloc, scope, no.as_slice())?;
+            let yes = resolve_block(alloc, scope, yes)?;
+            let no = resolve_block(alloc, scope, no)?;
             Ok(TypedAct::If { test, yes, no })
         }
     }
@@ -85,10 +85,10 @@ fn set(
     scope: &Scope,
     line: u32,
     name: &Name,
-    value: &Expr,
+    value: Expr,
 ) -> Result<TypedAct, StaticError>
-    ensures { Resolves (action_faults (scope_in scope.now) line (W.Set name.now (written_expression value.now))) action_of
-        (resolved_action (scope_in scope.now) (W.Set name.now (written_expression value.now))) result }
+    ensures { Resolves (action_faults (scope_in scope.now) line (W.Set name.now (written_expression value))) action_of
+        (resolved_action (scope_in scope.now) (W.Set name.now (written_expression value))) result }
 {
     let word = scope.variable(line, name)?;
     let value = resolve_expression(alloc, scope, line, value)?;
@@ -101,11 +101,11 @@ fn set_at(
     scope: &Scope,
     line: u32,
     name: &Name,
-    index: &Expr,
-    value: &Expr,
+    index: Expr,
+    value: Expr,
 ) -> Result<TypedAct, StaticError>
-    ensures { Resolves (action_faults (scope_in scope.now) line (W.SetAt name.now (written_expression index.now) (written_expression value.now))) action_of
-        (resolved_action (scope_in scope.now) (W.SetAt name.now (written_expression index.now) (written_expression value.now))) result }
+    ensures { Resolves (action_faults (scope_in scope.now) line (W.SetAt name.now (written_expression index) (written_expression value))) action_of
+        (resolved_action (scope_in scope.now) (W.SetAt name.now (written_expression index) (written_expression value))) result }
 {
     let (base, len) = scope.array(line, name)?;
     let index = resolve_expression(alloc, scope, line, index)?;
@@ -124,10 +124,10 @@ fn write(
     scope: &Scope,
     line: u32,
     message: &Name,
-    value: &Expr,
+    value: Expr,
 ) -> Result<TypedAct, StaticError>
-    ensures { Resolves (action_faults (scope_in scope.now) line (W.Write message.now (written_expression value.now))) action_of
-        (resolved_action (scope_in scope.now) (W.Write message.now (written_expression value.now))) result }
+    ensures { Resolves (action_faults (scope_in scope.now) line (W.Write message.now (written_expression value))) action_of
+        (resolved_action (scope_in scope.now) (W.Write message.now (written_expression value))) result }
 {
     let message = scope.message(line, true, message)?;
     let value = resolve_expression(alloc, scope, line, value)?;
@@ -154,9 +154,9 @@ fn take(scope: &Scope, line: u32, name: &Name) -> Result<TypedAct, StaticError>
 }
 
 /// An `emit`.
-fn emit(alloc: Global, scope: &Scope, line: u32, value: &Expr) -> Result<TypedAct, StaticError>
-    ensures { Resolves (action_faults (scope_in scope.now) line (W.Emit (written_expression value.now))) action_of
-        (resolved_action (scope_in scope.now) (W.Emit (written_expression value.now))) result }
+fn emit(alloc: Global, scope: &Scope, line: u32, value: Expr) -> Result<TypedAct, StaticError>
+    ensures { Resolves (action_faults (scope_in scope.now) line (W.Emit (written_expression value))) action_of
+        (resolved_action (scope_in scope.now) (W.Emit (written_expression value))) result }
 {
     let value = resolve_expression(alloc, scope, line, value)?;
     Ok(TypedAct::Emit { value })

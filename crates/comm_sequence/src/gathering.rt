@@ -16,8 +16,8 @@ use crate::error::CommError;
 use crate::seqs::Seqs;
 use crate::unrolling::{Stop, unroll};
 use cell_types::{Message, Program, TypedStmt};
-use sqlite_items::Items;
 use std::alloc::{AllocError, Global};
+use sys_base::Items;
 
 /// The communications of each cell, or the first `if` whose arms differ.
 pub fn unrolled(alloc: Global, program: &Program) -> Result<Items<Items<Entry>>, CommError>

@@ -3,8 +3,8 @@ ghost use Rattle.comm_sequence.specs.Sequences.{IsSequences};
 
 use crate::comm::Comm;
 use crate::cursor::Cursor;
-use sqlite_items::Items;
 use std::marker::Model;
+use sys_base::Items;
 
 /// What the cells of a program write and read, the lengths of its messages, and how many words its cells take and emit
 /// (`docs/model.md`, "Lists").

@@ -2,9 +2,9 @@ ghost use Rattle.std.specs.Prelude.{◌≡◌, []};
 
 use cell_tree::Source;
 use cell_types::resolve;
-use sqlite_items::Items;
 use std::alloc::Global;
 use std::test::Fail;
+use sys_base::Items;
 
 /// A source of one cell, in which nothing else is declared.
 fn idle(alloc: Global) -> Source

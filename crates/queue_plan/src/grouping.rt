@@ -9,9 +9,8 @@ use crate::groups::Groups;
 use crate::labelled::Group;
 use crate::users::users_of;
 use cell_types::Program;
-use sqlite_items::Items;
 use std::alloc::{AllocError, Global};
-use sys_base::Memory;
+use sys_base::{Items, Memory};
 
 /// The groups of each link of a program (`docs/model.md`, "Groups and queues"): the messages of one label and of length
 /// at least 1 whose routes use the link.

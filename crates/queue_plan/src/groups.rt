@@ -7,8 +7,8 @@ ghost use Rattle.queue_plan.specs.Lacks.{lacks};
 use crate::labelled::Group;
 use crate::lack::{Lack, first_lack};
 use cell_types::Program;
-use sqlite_items::Items;
 use std::marker::Model;
+use sys_base::Items;
 
 /// The groups of each link: the messages of one label that use the link (`docs/model.md`, "Groups and queues").
 ///

@@ -1,7 +1,7 @@
 ghost use Rattle.std.specs.Prelude.{◌≡◌};
 
-use sqlite_items::Items;
 use std::marker::Model;
+use sys_base::Items;
 
 /// The messages of one label that use a link, by their indices.
 #[derive(Debug, Drop)]

@@ -6,9 +6,8 @@ ghost use Rattle.queue_plan.specs.Grouping.{uses};
 ghost use Rattle.routes.specs.Walks.{Differ};
 
 use cell_types::Program;
-use sqlite_items::Items;
 use std::alloc::Global;
-use sys_base::Memory;
+use sys_base::{Items, Memory};
 
 /// The messages that use each link, by its id, in the order that is given.
 pub(crate) fn users_of(

@@ -5,9 +5,8 @@ ghost use Rattle.refusals.specs.Texts.{is_kind_known};
 use crate::line::text;
 use crate::refusal::Refusal;
 use crate::write::write_words;
-use sqlite_items::Items;
 use std::alloc::Global;
-use sys_base::{Memory, Name};
+use sys_base::{Items, Memory, Name};
 
 /// The explanation of a refusal: its line, and then of an E30 the lines of its walk, of an E50 the word `group` and the
 /// names of the group's members in order. A newline stands after each line. What an E17 found is one of the four kinds,

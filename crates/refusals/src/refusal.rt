@@ -1,5 +1,4 @@
-use sqlite_items::Items;
-use sys_base::{Limit, Name};
+use sys_base::{Items, Limit, Name};
 
 /// Why a source is refused. Each `line` is that of the token, the declaration or the statement at fault, from 1.
 #[derive(Debug, Drop)]

@@ -4,11 +4,10 @@ ghost use Rattle.refusals.specs.Texts.{is_kind_known};
 use crate::{
     Refusal, Wait, again_text, cell_text, explain, link_text, nothing_left_text, text, wait_text,
 };
-use sqlite_items::Items;
 use std::alloc::{AllocGlobal, Global};
 use std::process::Abort;
 use std::test::Fail;
-use sys_base::{Dir, Limit, Name};
+use sys_base::{Dir, Items, Limit, Name};
 
 fn name(alloc: Global, text: &[u8]) -> Result<Name, Fail> {
     let name = Name::new(alloc, text)?.ok_or("no name")?;

@@ -1,4 +1,5 @@
 pub mod Bytes
+pub mod formers
 pub mod Grid
 pub mod Key
 pub mod Name

@@ -3,12 +3,14 @@
 
 pub mod bytes;
 mod grid;
+mod items;
 mod key;
 mod kinds;
 mod memory;
 mod name;
 
 pub use grid::Grid;
+pub use items::Items;
 pub use key::Key;
 pub use kinds::{Dir, Kind, Limit, Op};
 pub use memory::Memory;

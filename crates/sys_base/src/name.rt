@@ -12,7 +12,7 @@ use std::rc::Rc;
 pub const NAME_BYTES: usize = 32;
 
 /// A name of the cell language, seen as its bytes: a letter or `_`, then letters, digits and `_`, at most 32 in all, and no
-/// keyword (`docs/language.md`, "Names and keywords"). Its copies share one block of memory, so that a name that stands many
+/// keyword (`docs/language.md`, "Names and keywords"). Its copies share the memory of its bytes, so that a name that stands many
 /// times in a program takes a pointer each time.
 #[derive(Debug, Drop)]
 pub struct Name {

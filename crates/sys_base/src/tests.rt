@@ -1,4 +1,4 @@
-use crate::{Dir, Grid, Name};
+use crate::{Dir, Grid, Items, Name};
 use std::test::Fail;
 
 #[test]
@@ -33,5 +33,18 @@ fn links(rt: HostRuntime) -> Result<(), Fail> {
     assert_eq!(rt; grid.cell(0, 2), Some(2));
     assert_eq!(rt; grid.link(1, Dir::E).ok_or("no link")?, 5);
     assert_eq!(rt; grid.neighbour(1, Dir::S), None);
+    Ok(())
+}
+
+#[test]
+fn lists(rt: HostRuntime) -> Result<(), Fail> {
+    let mut list = Items::from_slice(rt.alloc(), &[3, 1]).ok().ok_or("memory")?;
+    list.push(2_u16).ok().ok_or("memory")?;
+    assert_eq!(rt; list.len(), 3);
+    assert_eq!(rt; list.as_slice(), [3, 1, 2].as_slice());
+    let again = Items::from_vec(list.into_vec());
+    assert_eq!(rt; again.as_slice(), [3, 1, 2].as_slice());
+    let none: Items<u16> = Items::new(rt.alloc());
+    assert_eq!(rt; none.len(), 0);
     Ok(())
 }

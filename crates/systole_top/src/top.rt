@@ -13,6 +13,9 @@ use sys_outside::{Shelf, Sink};
 
 /// Answers the words of a command line: reads the files that they name from the shelf, and puts what there is to say on
 /// standard output or on standard error, in one piece.
+///
+/// What is built of an accepted source isn't freed: the program ends soon after. A process that calls this many times keeps that
+/// memory.
 pub fn systole<S: Shelf, O: Sink, E: Sink>(
     alloc: Global,
     words: &[String],

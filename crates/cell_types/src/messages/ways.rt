@@ -15,9 +15,8 @@ use crate::program::Message;
 use crate::table::Ends;
 use cell_tree::MessageDecl;
 use routes::{RouteError, route_of};
-use sqlite_items::Items;
 use std::alloc::Global;
-use sys_base::{Grid, Limit};
+use sys_base::{Grid, Items, Limit};
 
 /// The greatest label.
 const LABEL: u64 = 65535;

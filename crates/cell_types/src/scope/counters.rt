@@ -9,27 +9,22 @@ ghost use Rattle.cell_types.specs.declared.error.What.TheVariants as W;
 use super::Scope;
 use crate::error::StaticError;
 use crate::variables::twice;
-use sys_base::{Limit, Memory, Name};
+use sys_base::{Limit, Name};
 
 /// The most turns of a loop.
 const TURNS: u64 = 65535;
 
 impl<'a> Scope<'a> {
     /// Goes into a loop on this line, and gives how many loops are around it.
-    pub(crate) fn enter(
-        &mut self,
-        line: u32,
-        counter: &'a Name,
-        turns: u64,
-    ) -> Result<u8, StaticError>
+    pub(crate) fn enter(&mut self, line: u32, counter: Name, turns: u64) -> Result<u8, StaticError>
         requires { length (scope_in self.old).counters < 16 }
-        ensures depth { Resolves (when (is_some (meaning (scope_in self.old) counter.now)) (E.Twice (W.Named counter.now) line)
+        ensures depth { Resolves (when (is_some (meaning (scope_in self.old) counter)) (E.Twice (W.Named counter) line)
             ++ when (nat_lt 65535 turns) (E.Limit L.Turns line)) (λ depth. depth) (length (scope_in self.old).counters) result }
-        ensures inside { OnOk result (scope_in self.new ≡ inside_loop counter.now (scope_in self.old)) }
+        ensures inside { OnOk result (scope_in self.new ≡ inside_loop counter (scope_in self.old)) }
     {
         let depth = self.counters.len() as u8;
-        if !self.add_counter(counter)? {
-            return Err(twice(counter, line)?);
+        if self.meaning(&counter).is_some() {
+            return Err(twice(&counter, line)?);
         }
         if turns > TURNS {
             return Err(StaticError::Limit {
@@ -37,6 +32,7 @@ impl<'a> Scope<'a> {
                 line,
             });
         }
+        self.counters.push(counter)?;
         Ok(depth)
     }
 
@@ -44,19 +40,6 @@ impl<'a> Scope<'a> {
     pub(crate) fn leave(&mut self)
         ensures { scope_in self.new ≡ record (scope_in self.old) { counters = take (length (scope_in self.old).counters - 1) (scope_in self.old).counters } }
     {
-        self.counters.remove_last();
-    }
-
-    /// Adds a counter as the innermost one, unless its name means something already, and says whether it does not.
-    fn add_counter(&mut self, counter: &'a Name) -> Result<bool, Memory>
-        requires { length (scope_in self.old).counters < 16 }
-        ensures new { IfOk result (λ new. new ≡ not (is_some (meaning (scope_in self.old) counter.now))) }
-        ensures inside { IfOk result
-            (λ new. scope_in self.new ≡ (if new then inside_loop counter.now (scope_in self.old) else scope_in self.old)) }
-    {
-        if self.messages.find(counter).is_some() || self.variables.find(counter).is_some() {
-            return Ok(false);
-        }
-        self.counters.add(counter)
+        self.counters.pop();
     }
 }

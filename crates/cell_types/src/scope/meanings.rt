@@ -1,13 +1,12 @@
 ghost use Rattle.std.specs.Prelude.{◌≡◌, []};
 ghost use Rattle.std.specs.Option.{option_map};
 ghost use Rattle.cell_types.specs.Names.{meaning, message_named, variable_meaning};
-ghost use Rattle.cell_types.specs.Scopes.{meaning_of, message_meant, scope_in, variable_with, variables_in};
+ghost use Rattle.cell_types.specs.Scopes.{meaning_of, message_meant, place_of, scope_in, variable_with, variables_in};
 ghost use Rattle.cell_types.specs.Statics.{found_of};
 ghost use Rattle.cell_types.specs.Tables.{named_in};
 
 use super::{Meaning, Scope};
 use crate::error::Found;
-use crate::names::NameSet;
 use crate::table::MessageTable;
 use crate::variables::{Slot, Variables};
 use std::alloc::Global;
@@ -27,7 +26,7 @@ impl<'a> Scope<'a> {
             cell,
             messages,
             variables,
-            counters: NameSet::new(alloc),
+            counters: Vec::new(alloc),
         }
     }
 
@@ -42,8 +41,17 @@ impl<'a> Scope<'a> {
         if let Some(slot) = self.variables.find(name) {
             return Some(Meaning::of_variable(slot));
         }
-        let place = self.counters.place(name)?;
-        Some(Meaning::Counter { depth: place as u8 })
+        let depth = self.depth_of(name)?;
+        Some(Meaning::Counter { depth: depth as u8 })
+    }
+
+    /// How many loops are around the one with this counter.
+    fn depth_of(&self, name: &Name) -> Option<usize>
+        ensures { result ≡ place_of (scope_in self.now).counters name.now }
+    {
+        self.counters
+            .iter()
+            .position(|counter| counter.bytes() == name.bytes())
     }
 }
 

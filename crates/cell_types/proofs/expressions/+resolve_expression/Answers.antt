@@ -21,7 +21,7 @@ returns-in_err-base-in-At t c =
 pub returns-in_err-left-in-Binary : goal.returns-in_err-left-in-Binary
 returns-in_err-left-in-Binary t c =
     let is = ap written_expression c.in-Binary.is ∙ applied_written _ _ _
-    ∙ ap (λ left. T.Applied c.in-Binary.op (written_expression left) (written_expression c.in-Binary.right)) (sym c.get-in-Binary.ensures) in
+    ∙ ap (λ left. T.Applied c.in-Binary.op (written_expression left) (written_expression c.in-Binary.right)) (sym c.into_inner-in-Binary.ensures) in
     resolves_same expression_of _ _ _ _ c.from_residual-in_err-left-in-Binary.result
     (ap (expression_faults (scope_in c.args.scope.now) c.args.line) is)
     (ap (resolved_expression (scope_in c.args.scope.now)) is)

@@ -1,4 +1,5 @@
-use Rattle.std.proofs.Common.{sym, ap, subst, ◌∙◌}
+use Rattle.std.proofs.Common.{map, refl, sym, ap, subst, ◌∙◌}
+use Rattle.cell_types.specs.Names.{named_message}
 use Rattle.cell_types.specs.Sound.{IsSound}
 use Rattle.cell_types.specs.Typed.{plain}
 use Rattle.cell_types.specs.Written.{written}
@@ -11,7 +12,9 @@ new-requires c =
     let source = c.args.source in
     let all = whole source c.requires.printable c.in_ok-grid.grid c.in_ok-usual.usual c.as_slice.result.now c.as_slice-2.result.now
     c.in_ok-queues.queues c.in_ok-list.field-0.list c.in_ok-cells.cells c.in_ok-grid.ensures c.in_ok-usual.ensures.count c.as_slice.ensures
-    c.as_slice-2.ensures c.in_ok-queues.ensures.faults c.in_ok-list.ensures.list c.in_ok-cells.ensures
+    c.as_slice-2.ensures c.in_ok-queues.ensures.faults c.in_ok-list.ensures.list
+    (c.in_ok-cells.ensures source c.in_ok-grid.ensures.1 refl
+    (c.in_ok-list.ensures.table ∙ ap (map (named_message c.in_ok-grid.grid)) c.as_slice-2.ensures))
     (c.in_ok-queues.ensures.queues (written source) c.in_ok-grid.ensures.1 c.in_ok-usual.ensures.count.1 c.as_slice.ensures) in
     record {
       sound = subst IsSound (sym all.1) (sound source c.requires.printable all.0 (c.printable_is_shallow.ensures.stack source c.requires.printable)
@@ -23,6 +26,8 @@ returns-clause-program c =
     let source = c.args.source in
     let all = whole source c.requires.printable c.in_ok-grid.grid c.in_ok-usual.usual c.as_slice.result.now c.as_slice-2.result.now
     c.in_ok-queues.queues c.in_ok-list.field-0.list c.in_ok-cells.cells c.in_ok-grid.ensures c.in_ok-usual.ensures.count c.as_slice.ensures
-    c.as_slice-2.ensures c.in_ok-queues.ensures.faults c.in_ok-list.ensures.list c.in_ok-cells.ensures
+    c.as_slice-2.ensures c.in_ok-queues.ensures.faults c.in_ok-list.ensures.list
+    (c.in_ok-cells.ensures source c.in_ok-grid.ensures.1 refl
+    (c.in_ok-list.ensures.table ∙ ap (map (named_message c.in_ok-grid.grid)) c.as_slice-2.ensures))
     (c.in_ok-queues.ensures.queues (written source) c.in_ok-grid.ensures.1 c.in_ok-usual.ensures.count.1 c.as_slice.ensures) in
     (all.0, ap plain c.new.ensures ∙ all.1)
