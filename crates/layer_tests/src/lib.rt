@@ -11,3 +11,5 @@ mod labels;
 mod parsing;
 #[cfg(test)]
 mod statics;
+#[cfg(test)]
+mod texts;

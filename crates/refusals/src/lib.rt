@@ -19,6 +19,3 @@ pub use line::text;
 pub use place::{cell_text, link_text};
 pub use refusal::Refusal;
 pub use walk::{Wait, again_text, nothing_left_text, wait_text};
-
-#[cfg(test)]
-mod tests;

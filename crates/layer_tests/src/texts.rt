@@ -1,7 +1,7 @@
 ghost use Rattle.std.specs.Prelude.{IsTrue};
 ghost use Rattle.refusals.specs.Texts.{is_kind_known};
 
-use crate::{
+use refusals::{
     Refusal, Wait, again_text, cell_text, explain, link_text, nothing_left_text, text, wait_text,
 };
 use std::alloc::{AllocGlobal, Global};
