@@ -47,8 +47,13 @@ def statements(size):
     return filled(size, HEAD + "cell 0.0 {\nvar x;\n", lambda k: "x=x;", "}\n")
 
 
-def expressions(size):
-    """One cell with sums of 120 terms."""
+def sums(size):
+    """One cell with sums of 120 terms, spaced as in canonical text."""
+    return filled(size, HEAD + "cell 0.0 {\nvar x;\n", lambda k: "  x = " + " + ".join(["x"] * 120) + ";\n", "}\n")
+
+
+def dense_sums(size):
+    """One cell with sums of 120 terms and no spaces, which have the most nodes a byte."""
     return filled(size, HEAD + "cell 0.0 {\nvar x;\n", lambda k: "x=" + "+".join(["x"] * 120) + ";\n", "}\n")
 
 
@@ -92,7 +97,7 @@ def main():
     program = os.path.abspath(sys.argv[1]) if len(sys.argv) > 1 else os.path.join(here, "..", "systole")
     with tempfile.TemporaryDirectory() as room:
         path = os.path.join(room, "source.sys")
-        for kind in (exchange, statements, expressions, parentheses, blocks, comments, one_name):
+        for kind in (exchange, statements, sums, dense_sums, parentheses, blocks, comments, one_name):
             for size in (GREATEST // 4, GREATEST // 2, GREATEST):
                 with open(path, "w", encoding="ascii") as file:
                     file.write(kind(size))
