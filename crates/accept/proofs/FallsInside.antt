@@ -1,7 +1,8 @@
 -- Labels fall at cells of a program, between its messages.
-use Rattle.std.proofs.Common.{◌≡◌, ℕ, ◌<◌, List, [], Option, None, Some, inl, inr, length, slice_get, refl, ap, subst, ◌∙◌, IsSomeAnd, arith}
+use Rattle.std.proofs.Common.{◌≡◌, ℕ, ◌<◌, List, [], Option, None, Some, inl, inr, All, length, slice_get, refl, ap, subst, ◌∙◌, arith}
 use Rattle.std.proofs.lemmas.Bool.{cases_lt}
 use Rattle.std.proofs.lemmas.List.{get_or_past, length-map}
+use Rattle.std.proofs.lemmas.List.Elements.{All-get_or}
 use Rattle.std.proofs.lemmas.List.FromFn.{length-map-range_with_len}
 use Rattle.std.proofs.lemmas.Option.{slice_get_within}
 use Rattle.std.specs.Prelude.{slice_index_or, option_map}
@@ -10,23 +11,12 @@ use Rattle.cell_types.specs.Code.{ProgramCode}
 use Rattle.cell_types.specs.Communications.{communications}
 use Rattle.cell_types.specs.Sound.{IsSound}
 use Rattle.cell_types.specs.declared.program.Message.{Message}
-use Rattle.comm_sequence.specs.Sequences.{Sequences, comms, sequences_of, message_of, IsAtItsEnd, IsSequences}
+use Rattle.comm_sequence.specs.Sequences.{Sequences, comms, sequences_of, message_of, IsSequences}
 use Rattle.comm_sequence.specs.declared.comm.Comm.{Comm}
-use Rattle.comm_sequence.specs.declared.comm.Comm.TheVariants as C
 use Rattle.labelling.specs.Falls.{IsFall}
 use Rattle.labelling.specs.declared.falls.Fall.{Fall}
 use Rattle.accept.specs.Answers.{IsFallOf}
 use Rattle.accept.proofs.Waits.{all_at}
-
--- a message that has ends is one of those with ends
-has_ends : (ends : List (ℕ × ℕ)) (m : ℕ) (P : ℕ × ℕ → Type 0) (o : Option (ℕ × ℕ)) → slice_get ends m ≡ o → IsSomeAnd o P → m < length ends
-has_ends ends m P None at none = absurd none
-has_ends ends m P (Some e) at here = slice_get_within ends m e at
-
--- so is the message of an operation that a cell does at its end
-known : (ends : List (ℕ × ℕ)) (cell : ℕ) (operation : Comm) → IsAtItsEnd ends cell operation → message_of operation < length ends
-known ends cell (C.Write m) at = has_ends ends m (λ e. e.0 ≡ cell) (slice_get ends m) refl at
-known ends cell (C.Read m) at = has_ends ends m (λ e. e.1 ≡ cell) (slice_get ends m) refl at
 
 -- The cell is one of those with lists, and the message is one of those with ends.
 record IsOfSequences (s : Sequences) (cell message : ℕ) : Type 0 where
@@ -41,8 +31,10 @@ listed s kept cell place m (Some operation) at here =
     elim (cases_lt cell (length s.lists)) as (λ _. IsOfSequences s cell m) [
       | inl inside ↦
           let same : message_of operation ≡ m = cc in
-          let owned = all_at (IsAtItsEnd s.ends cell) (slice_index_or s.lists cell []) place operation (kept.owned cell inside) at in
-          record { has_cell = inside; has_message = subst (λ k. k < length s.ends) same (known s.ends cell operation owned) }
+          let list = slice_index_or s.lists cell [] in
+          let all = All-get_or (λ xs. All (λ x. message_of x < length s.ends) xs) s.lists cell [] inside kept.known in
+          let known = all_at (λ x. message_of x < length s.ends) list place operation all at in
+          record { has_cell = inside; has_message = subst (λ k. k < length s.ends) same known }
       | inr past ↦
           let within = slice_get_within (slice_index_or s.lists cell []) place operation at in
           let none : length (slice_index_or s.lists cell []) ≡ 0 = ap length (get_or_past s.lists cell [] past) in

@@ -1,6 +1,6 @@
 pub mod OneRefusal
 pub mod Refused
-pub mod Near
+pub mod ToldFault
 pub mod Waits
 pub mod OneFall
 pub mod Judged

@@ -1,15 +1,11 @@
 -- What the parts of acceptance answer, each of a source or a program.
-use Rattle.std.specs.Prelude.{ℕ, ◌≡◌, ◌<◌, ◌≤◌, ◌*◌, ◌/◌, List, [], find, length, nat_eq, slice_get, All, Some, IsTrue}
+use Rattle.std.specs.Prelude.{ℕ, ◌≡◌, ◌<◌, List, [], find, length, nat_eq, slice_get, All, Some, IsTrue}
 use Rattle.std.specs.Option.{option_map_or}
 use Rattle.sys_base.specs.Grid.{cell_count}
 use Rattle.cell_tree.specs.declared.source.Source.{Source}
 use Rattle.cell_types.specs.Code.{ProgramCode}
 use Rattle.cell_types.specs.Faults.{faults}
-use Rattle.cell_types.specs.declared.error.RouteFault.TheVariants as P
 use Rattle.cell_types.specs.declared.error.StaticError.{StaticError}
-use Rattle.cell_types.specs.declared.error.StaticError.TheVariants as S
-use Rattle.cell_types.specs.declared.error.What.{What}
-use Rattle.cell_types.specs.declared.error.What.TheVariants as T
 use Rattle.cell_types.specs.declared.program.Message.{Message}
 use Rattle.comm_sequence.specs.Sequences.{message_of}
 use Rattle.crossing_off.specs.declared.waits.Wait.{Wait}
@@ -24,25 +20,6 @@ use Rattle.accept.specs.Labelled.{first_unlabelled}
 use Rattle.accept.specs.Told.{grid_of, static_refusal}
 use Rattle.accept.specs.declared.building.AcceptError.{AcceptError}
 use Rattle.accept.specs.declared.building.AcceptError.TheVariants as A
-
--- A cell of a grid with so many columns has a row and a column below 16.
-pub record IsNear (cols cell : ℕ) : Type 0 where
-  pub some : 1 ≤ cols
-  pub most : cols ≤ 16
-  pub row : cell < 16 * cols
-
--- What stands twice is near, where it is a cell or a link.
-abbrev pub IsWhatNear : ℕ → What → Type 0
-IsWhatNear cols (T.Named name) = Unit {0}
-IsWhatNear cols (T.Cell cell) = IsNear cols cell
-IsWhatNear cols (T.Link link) = IsNear cols (link / 4)
-
--- The cells and links that a static fault names have rows and columns below 16, where the grid has so many columns.
-abbrev pub NamesNear : ℕ → StaticError → Type 0
-NamesNear cols (S.Twice what line) = IsWhatNear cols what
-NamesNear cols (S.WrongEnd name cell sends line) = IsNear cols cell
-NamesNear cols (S.Route name (P.LinkTwice link) line) = IsNear cols (link / 4)
-NamesNear cols _ = Unit {0}
 
 -- The error is the refusal of the source's first fault, or memory ran out.
 abbrev pub IsFaultTold : Source → AcceptError → Type 0

@@ -1,6 +1,6 @@
 //! Cells and links by their rows, columns and directions.
 ghost use Rattle.std.specs.Prelude.{◌≡◌, ◌/◌, ◌%◌, ◌*◌, ◌<◌};
-ghost use Rattle.accept.specs.Answers.{IsNear};
+ghost use Rattle.cell_types.specs.Near.{IsNear};
 ghost use Rattle.accept.specs.Told.{dir_of};
 
 use sys_base::Dir;

@@ -1,8 +1,8 @@
 //! Static faults, told by the names of cells and links.
 ghost use Rattle.std.specs.Prelude.{◌≡◌, ◌/◌, ℕ, Some, IsTrue, IfOk};
+ghost use Rattle.cell_types.specs.Near.{IsNear, IsWhatNear, NamesNear};
 ghost use Rattle.cell_types.specs.declared.error.StaticError.TheVariants as S;
 ghost use Rattle.refusals.specs.Texts.{is_kind_known};
-ghost use Rattle.accept.specs.Answers.{IsNear, IsWhatNear, NamesNear};
 ghost use Rattle.accept.specs.Told.{cell_name, kind_number, link_name, static_refusal, what_name};
 
 use crate::places::{dir_of, place_of};

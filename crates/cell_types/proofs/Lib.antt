@@ -9,7 +9,9 @@ pub mod LinkQueues
 pub mod LinkSteps
 pub mod MessageLoop
 pub mod MessageSteps
+pub mod Near
 pub mod NoFaults
+pub mod Paths
 pub mod Places
 pub mod Ranges
 pub mod RouteFound

@@ -10,7 +10,6 @@ use Rattle.std.specs.Option.{option_map_or}
 use Rattle.sys_base.specs.declared.kinds.Limit.TheVariants as L
 use Rattle.sys_base.specs.Grid.{Extent, cell_count}
 use Rattle.routes.specs.Walks.{directions, IsRoute, IsPath}
-use Rattle.routes.proofs.Counts.{path_some, path_each}
 use Rattle.cell_tree.specs.declared.source.MessageDecl.{MessageDecl}
 use Rattle.cell_tree.specs.declared.source.Place.{Place}
 use Rattle.cell_types.specs.Faults.{is_off_grid, faults_behind, route_faults, message_faults}
@@ -24,6 +23,7 @@ use Rattle.cell_types.specs.declared.error.StaticError.TheVariants as E
 use Rattle.cell_types.specs.declared.error.What.TheVariants as W
 use Rattle.cell_types.specs.declared.program.Message.{Message}
 use Rattle.cell_types.proofs.NoFaults.{none_front, none_back, when_none, each_kept}
+use Rattle.cell_types.proofs.Paths.{PathLaws}
 use Rattle.cell_types.proofs.SoundRoutes.{route_kept}
 
 -- a place that is not off the grid has a cell of it
@@ -81,9 +81,9 @@ line_kept g earlier m h =
     }
 
 -- a message by its line
-message_kept : (g : Extent) (earlier : List MessageDecl) (m : MessageDecl) → message_faults g earlier m ≡ []
+message_kept : PathLaws → (g : Extent) (earlier : List MessageDecl) (m : MessageDecl) → message_faults g earlier m ≡ []
     → IsSoundMessage g (resolved_message g m)
-message_kept g earlier m h =
+message_kept laws g earlier m h =
     let kept : IsKept g earlier m = line_kept g earlier m h in
     let links : List ℕ = links_of (route_between g (cell_index g m.from) (cell_index g m.to) m.route) in
     let route : IsRoute g (cell_index g m.from) (cell_index g m.to) m.route links =
@@ -95,8 +95,8 @@ message_kept g earlier m h =
       receiver = kept.to;
       apart = kept.apart;
       path = path;
-      some = path_some g (cell_index g m.from) (cell_index g m.to) links kept.apart path;
-      links = path_each g (cell_index g m.from) (cell_index g m.to) links kept.from path;
+      some = laws.some g (cell_index g m.from) (cell_index g m.to) links kept.apart path;
+      links = laws.each g (cell_index g m.from) (cell_index g m.to) links kept.from path;
       label = kept.label;
     }
 
@@ -107,11 +107,11 @@ mapped g [] h = tt
 mapped g (m ∷ ms) h = (h.0, mapped g ms h.1)
 
 -- each message is sound
-pub messages_kept : (g : Extent) (ms : List MessageDecl) → faults_behind (message_faults g) [] ms ≡ []
+pub messages_kept : PathLaws → (g : Extent) (ms : List MessageDecl) → faults_behind (message_faults g) [] ms ≡ []
     → All (IsSoundMessage g) (map (resolved_message g) ms)
-messages_kept g ms h =
+messages_kept laws g ms h =
     All-from_recursion (IsSoundMessage g) (map (resolved_message g) ms)
-    (mapped g ms (each_kept (message_faults g) (λ m. IsSoundMessage g (resolved_message g m)) (message_kept g) [] ms h))
+    (mapped g ms (each_kept (message_faults g) (λ m. IsSoundMessage g (resolved_message g m)) (message_kept laws g) [] ms h))
 
 -- messages behind others are few together with those
 few_behind : (g : Extent) (earlier ms : List MessageDecl) → faults_behind (message_faults g) earlier ms ≡ [] → length earlier ≤ 512

@@ -16,6 +16,7 @@ use Rattle.cell_types.specs.Written.{WrittenSource, written_block, written_cell,
 use Rattle.cell_types.specs.declared.error.StaticError.{StaticError}
 use Rattle.cell_types.proofs.NoFaults.{none_front, none_back}
 use Rattle.cell_types.proofs.SoundCells.{IsShallow, cells_kept, cells_length}
+use Rattle.cell_types.proofs.Paths.{PathLaws}
 use Rattle.cell_types.proofs.SoundGrid.{grid_kept, queues_kept, queues_length}
 use Rattle.cell_types.proofs.SoundMessages.{messages_kept, messages_few, names_differ}
 use Rattle.cell_types.proofs.WrittenNumbers.{Small, small_front, small_back}
@@ -51,9 +52,9 @@ cells_small source printable =
     (flat_map cell_numbers source.cells) all.1.1.1.1
 
 -- a printable source without faults gives a program that keeps all that the type of programs keeps
-pub sound : (source : Source) → IsPrintable source → faults source ≡ [] → All (λ cell. cell_stack cell ≤ 256) source.cells
+pub sound : PathLaws → (source : Source) → IsPrintable source → faults source ≡ [] → All (λ cell. cell_stack cell ≤ 256) source.cells
     → All (λ cell. cell_loops cell ≤ 16) source.cells → IsSound (program_of source)
-sound source printable h stack loops =
+sound laws source printable h stack loops =
     let s : WrittenSource = written source in
     let g : Extent = extent_of s in
     let links : List StaticError = faults_behind (link_faults g) [] s.links in
@@ -70,7 +71,7 @@ sound source printable h stack loops =
           (none_back (array_faults s ++ queues_faults s) links before_messages);
       few = messages_few g s.messages no_messages;
       names = names_differ g s.messages no_messages;
-      messages = messages_kept g s.messages no_messages;
+      messages = messages_kept laws g s.messages no_messages;
       all = cells_length s;
       cells = cells_kept s (none_back (array_faults s ++ queues_faults s ++ links ++ messages) cells h)
           (all_shallow source.cells (recursion_from_All (λ c. cell_stack c ≤ 256) source.cells stack)

@@ -7,6 +7,7 @@ pub mod Depth
 pub mod Faults
 pub mod Groups
 pub mod Names
+pub mod Near
 pub mod Resolved
 pub mod Route
 pub mod Scopes

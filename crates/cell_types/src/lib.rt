@@ -7,6 +7,7 @@ mod depth;
 mod error;
 mod expression;
 mod expressions;
+mod laws;
 mod links;
 mod messages;
 mod names;
@@ -20,6 +21,7 @@ mod variables;
 
 pub use error::{Found, RouteFault, StaticError, What};
 pub use expression::TypedExpr;
+pub use laws::routes_agree;
 pub use program::{Cell, Message, Program};
 pub use resolving::resolve;
 pub use statement::{TypedAct, TypedStmt};

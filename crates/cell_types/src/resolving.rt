@@ -2,6 +2,7 @@ ghost use Rattle.std.specs.Prelude.{◌≡◌, [], IfOk, IfErr};
 ghost use Rattle.cell_tree.specs.Printable.{IsPrintable};
 ghost use Rattle.cell_types.specs.Faults.{array_faults, faults, IsFirst};
 ghost use Rattle.cell_types.specs.Names.{extent_of};
+ghost use Rattle.cell_types.specs.Near.{NamesNear};
 ghost use Rattle.cell_types.specs.Resolved.{program_of};
 ghost use Rattle.cell_types.specs.Scopes.{Resolves};
 ghost use Rattle.cell_types.specs.Typed.{plain};
@@ -13,6 +14,7 @@ use crate::links::{all_queues, queue_count};
 use crate::messages::{Messages, resolve_messages};
 use crate::program::Program;
 use cell_tree::{Source, printable_is_shallow};
+use routes::path_bounds;
 use std::alloc::Global;
 use sys_base::{Grid, Limit};
 
@@ -28,8 +30,19 @@ pub fn resolve(alloc: Global, source: Source) -> Result<Program, StaticError>
     requires printable { IsPrintable source }
     ensures program { IfOk result (λ p. (faults source ≡ []) × (plain p ≡ program_of source)) }
     ensures fault { IfErr result (IsFirst (faults source)) }
+    ensures near { IfErr result (NamesNear source.cols) }
+{
+    path_bounds();
+    resolve_source(alloc, source)
+}
+
+fn resolve_source(alloc: Global, source: Source) -> Result<Program, StaticError>
+    requires { IsPrintable source }
+    ensures program { IfOk result (λ p. (faults source ≡ []) × (plain p ≡ program_of source)) }
+    ensures fault { IfErr result (IsFirst (faults source)) }
 {
     printable_is_shallow();
+    path_bounds();
     let grid = resolve_grid(&source)?;
     let usual = queue_count(source.queues, source.queues_line)?;
     let queues = all_queues(alloc, &grid, usual, source.links.as_slice())?;

@@ -79,6 +79,7 @@ sound_sequences p sound cheap =
           (λ m s. (omega (arith, s.sender, n, all), omega (arith, s.receiver, n, all))) p.messages sound.messages);
       apart = All-map (λ (e : ℕ × ℕ). e.0 ≢ e.1) (λ (m : Message). (m.from, m.to)) p.messages
           (All-weaker (IsSoundMessage p.grid) (λ (m : Message). m.from ≢ m.to) (λ m s. s.apart) p.messages sound.messages);
+      known = lists_on p sound;
       owned = lists_own p sound;
       counted = λ m lt.
           let within : m < length p.messages = omega (arith, lt, length-map-range_with_len (length_of p) 0 (length p.messages)) in

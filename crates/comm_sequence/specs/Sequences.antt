@@ -54,8 +54,8 @@ IsAtItsEnd ends cell (Write m) = IsSomeAnd (slice_get ends m) (λ e. e.0 ≡ cel
 IsAtItsEnd ends cell (Read m) = IsSomeAnd (slice_get ends m) (λ e. e.1 ≡ cell)
 
 -- What the type of sequences keeps: there are at most 256 cells and 512 messages, each message goes from one cell to another
--- one, only its sender writes it and only its receiver reads it, its length is how often it is written, and all lists together
--- have at most 4,194,304 entries.
+-- one, the lists are of these messages, only its sender writes one and only its receiver reads it, its length is how often it is
+-- written, and all lists together have at most 4,194,304 entries.
 pub record IsSequences (s : Sequences) : Type 0 where
   pub cells : length s.lists ≤ 256
   pub messages : length s.ends ≤ 512
@@ -64,6 +64,7 @@ pub record IsSequences (s : Sequences) : Type 0 where
   pub emits : length s.emits ≡ length s.lists
   pub within : All (λ (e : ℕ × ℕ). (e.0 < length s.lists) × (e.1 < length s.lists)) s.ends
   pub apart : All (λ (e : ℕ × ℕ). e.0 ≢ e.1) s.ends
+  pub known : All (λ list. All (λ c. message_of c < length s.ends) list) s.lists
   pub owned : EachIndex s.lists (λ cell. All (IsAtItsEnd s.ends cell) (slice_index_or s.lists cell []))
   pub counted : EachIndex s.lengths (λ m. slice_index s.lengths m ≡ sum_by (count_by (writes m)) s.lists)
   pub few : sum_by length s.lists ≤ 4194304

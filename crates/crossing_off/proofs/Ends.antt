@@ -1,13 +1,12 @@
 -- The ends of messages of sound sequences, and the operations of their lists.
-use Rattle.std.proofs.Common.{◌≡◌, ◌≢◌, ℕ, ◌+◌, ◌<◌, ◌∙◌, List, [], Some, length, drop, Contains, slice_get, slice_index_or, sym, arith}
-use Rattle.std.proofs.lemmas.List.Elements.{All-contains}
+use Rattle.std.proofs.Common.{◌≡◌, ◌≢◌, ℕ, ◌+◌, ◌<◌, ◌∙◌, List, [], Some, All, length, drop, Contains, slice_get, slice_index_or, sym, arith}
+use Rattle.std.proofs.lemmas.List.Elements.{All-contains, All-get_or}
 use Rattle.std.proofs.lemmas.List.{length-drop, get_or-drop}
 use Rattle.std.proofs.lemmas.Option.{slice_get_within, get_or_from_slice_get}
-use Rattle.comm_sequence.specs.Sequences.{Sequences, IsSequences, IsAtItsEnd, message_of}
+use Rattle.comm_sequence.specs.Sequences.{Sequences, IsSequences, message_of}
 use Rattle.comm_sequence.specs.declared.comm.Comm.{Comm}
-use Rattle.comm_sequence.specs.declared.comm.Comm.TheVariants.{Write, Read}
 use Rattle.crossing_off.specs.Greedy.{front}
-use Rattle.crossing_off.proofs.Lists.{is_there, some_there, Contains-from_slice_get}
+use Rattle.crossing_off.proofs.Lists.{is_there, Contains-from_slice_get}
 
 -- a message goes from one cell to another one
 pub record HasEnds (s : Sequences) (m : ℕ) : Type 0 where
@@ -36,11 +35,6 @@ has_ends_at s m e sound is =
 pub has_ends : (s : Sequences) (m : ℕ) → IsSequences s → m < length s.ends → HasEnds s m
 has_ends s m sound l = let e = is_there s.ends m l in has_ends_at s m e.0 sound e.1
 
--- an operation at its end is on a message
-on_message : (ends : List (ℕ × ℕ)) (c : ℕ) (e : Comm) → IsAtItsEnd ends c e → message_of e < length ends
-on_message ends c (Write m) h = let x = some_there _ (slice_get ends m) h in slice_get_within ends m x.0 x.1
-on_message ends c (Read m) h = let x = some_there _ (slice_get ends m) h in slice_get_within ends m x.0 x.1
-
 -- the first operation that is left is one of the list
 first_contains : (n : ℕ) (list : List Comm) (e : Comm) → slice_get (drop n list) 0 ≡ Some e → Contains list e
 first_contains n list e h =
@@ -52,4 +46,6 @@ first_contains n list e h =
 -- the first operation that is left is on a message
 pub front_known : (s : Sequences) (order : List ℕ) (c : ℕ) (e : Comm) → IsSequences s → c < length s.lists → front s order c ≡ Some e → message_of e < length s.ends
 front_known s order c e sound l h =
-    on_message s.ends c e (All-contains (IsAtItsEnd s.ends c) (slice_index_or s.lists c []) e (sound.owned c l) (first_contains _ (slice_index_or s.lists c []) e h))
+    let list : List Comm = slice_index_or s.lists c [] in
+    let known = All-get_or (λ list. All (λ e. message_of e < length s.ends) list) s.lists c [] l sound.known in
+    All-contains (λ e. message_of e < length s.ends) list e known (first_contains _ list e h)

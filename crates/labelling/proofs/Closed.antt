@@ -10,9 +10,8 @@ use Rattle.std.proofs.lemmas.List.Elements.{All-get_or}
 use Rattle.std.proofs.lemmas.Option.{slice_get_within, get_or_from_slice_get, none-some, same_Some}
 use Rattle.comm_sequence.specs.Labels.{message_at, Neighbours, Must, IsTable}
 use Rattle.comm_sequence.specs.Labels.Must.{Alone, Before}
-use Rattle.comm_sequence.specs.Sequences.{message_of, Sequences, IsSequences, IsAtItsEnd}
+use Rattle.comm_sequence.specs.Sequences.{message_of, Sequences, IsSequences}
 use Rattle.comm_sequence.specs.declared.comm.Comm.{Comm}
-use Rattle.comm_sequence.proofs.Owned.{on_message}
 use Rattle.labelling.specs.Sets.{stand_after, stand_next, Through}
 use Rattle.labelling.specs.Sets.Through.{Near, Joined}
 
@@ -121,15 +120,7 @@ below_from_all lists count all = λ cell place m h.
 
 -- each message in the lists of sequences is one of theirs
 pub below_from_sequences : (s : Sequences) → IsSequences s → AreBelow s.lists (length s.ends)
-below_from_sequences s h = λ cell place m e.
-    let list = get_or s.lists cell [] in
-    let here = h.owned cell (cell_within s.lists cell place m e) in
-    below_if (slice_get list place) m (length s.ends)
-    (λ x at.
-    let P : Comm → Type 0 = IsAtItsEnd s.ends cell in
-    on_message s.ends cell x
-    (subst P (get_or_from_slice_get list place x x at) (All-get_or P list place x (slice_get_within list place x at) here)))
-    e
+below_from_sequences s h = below_from_all s.lists (length s.ends) h.known
 
 -- The closed table, over the one that tells of neighbours.
 module _ (lists : List (List Comm)) (count : ℕ) (known : AreBelow lists count) (near closed : ℕ → ℕ → Bool)

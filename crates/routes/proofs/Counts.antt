@@ -1,5 +1,5 @@
 -- How many links a path has, and which.
-use Rattle.std.proofs.Common.{ℕ, ◌≢◌, ◌*◌, ◌<◌, ◌≤◌, List, [], ◌∷◌, length, All, arith}
+use Rattle.std.proofs.Common.{ℕ, ◌≢◌, ◌*◌, ◌<◌, ◌≤◌, List, [], ◌∷◌, length, All, subst, arith}
 use Rattle.std.proofs.lemmas.Bool.Decides.{Decides-eqb}
 use Rattle.std.proofs.lemmas.List.Elements.{All-cons, All-contains}
 use Rattle.std.proofs.lemmas.Map.Made.{IsDistinct-from_AllPairs}
@@ -43,3 +43,14 @@ path_each g from to links f p = walk_each g from to p.leads.0 links f p.leads.1
 -- a path has at most as many links as there are ids
 pub path_most : (g : Extent) (from to : ℕ) (links : List ℕ) → from < cell_count g → IsPath g from links to → length links ≤ 4 * cell_count g
 path_most g from to links f p = most_links links (4 * cell_count g) p.differ (path_each g from to links f p)
+
+-- a walk from a cell of the grid ends at one
+walk_inside : (g : Extent) (from to : ℕ) (ds : List Dir) (links : List ℕ) → from < cell_count g → Walks g from ds links to → to < cell_count g
+walk_inside g from to [] [] f w = subst (λ cell. cell < cell_count g) w f
+walk_inside g from to [] (l ∷ ls) f w = absurd w
+walk_inside g from to (d ∷ ds) [] f w = absurd w
+walk_inside g from to (d ∷ ds) (l ∷ ls) f w = walk_inside g w.1 to ds ls (hop_inside g from d w.1 f w.2) w.3
+
+-- a path from a cell of the grid ends at one
+pub path_inside : (g : Extent) (from to : ℕ) (links : List ℕ) → from < cell_count g → IsPath g from links to → to < cell_count g
+path_inside g from to links f p = walk_inside g from to p.leads.0 links f p.leads.1

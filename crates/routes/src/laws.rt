@@ -18,11 +18,13 @@ pub fn one_route()
         → from < cell_count g → to < cell_count g → IsFault g from to [] e → ⊥ }
 {}
 
-/// A law: a path between two cells of the grid has at least one link and at most as many as the grid has ids, each below
-/// four times the cells; and a route by directions is a path.
+/// A law: a path from a cell of the grid ends at a cell of the grid; between two cells it has at least one link and at most
+/// as many as the grid has ids, each below four times the cells; and a route by directions is a path.
 pub fn path_bounds()
     ensures routes { (g : Extent) (from to : ℕ) (given : List Dir) (links : List ℕ)
         → IsRoute g from to given links → IsPath g from links to }
+    ensures inside { (g : Extent) (from to : ℕ) (links : List ℕ)
+        → from < cell_count g → IsPath g from links to → to < cell_count g }
     ensures some { (g : Extent) (from to : ℕ) (links : List ℕ)
         → from ≢ to → IsPath g from links to → 0 < length links }
     ensures most { (g : Extent) (from to : ℕ) (links : List ℕ)

@@ -1,8 +1,8 @@
-use Rattle.accept.proofs.Near.{fault_near, told_first}
+use Rattle.accept.proofs.ToldFault.{told_first}
 use Rattle.accept.proofs.building.resolved.Goals as goal
 
 pub static_refusal-requires : goal.static_refusal-requires
-static_refusal-requires c = fault_near c.args.source c.in-Err.fault c.in-Err.ensures.fault
+static_refusal-requires c = c.in-Err.ensures.near
 
 pub returns-in_ok-static_refusal-in-Err-clause-fault : goal.returns-in_ok-static_refusal-in-Err-clause-fault
 returns-in_ok-static_refusal-in-Err-clause-fault c = (

@@ -1,5 +1,5 @@
 -- The first fault of a source names cells and links with rows and columns below 16.
-use Rattle.std.proofs.Common.{◌≡◌, ℕ, ◌*◌, ◌/◌, ◌<◌, ◌≤◌, Bool, true, false, not, ◌||◌, List, [], ◌∷◌, ◌++◌, Option, Some, None, Ok, Err, is_none, is_some, nat_eq, nat_lt, nat_le, length, map, slice_get, refl, sym, ap, subst, inl, inr, arith}
+use Rattle.std.proofs.Common.{◌≡◌, ℕ, ◌*◌, ◌/◌, ◌<◌, ◌≤◌, Bool, true, false, not, ◌||◌, List, [], ◌∷◌, ◌++◌, Option, Some, None, Result, Ok, Err, IfErr, is_none, is_some, nat_eq, nat_lt, nat_le, length, map, refl, sym, subst, inl, inr, arith}
 use Rattle.std.specs.List.{list_any}
 use Rattle.std.specs.Option.{option_map_or}
 use Rattle.std.specs.Prelude.{if◌then◌else◌}
@@ -24,12 +24,9 @@ use Rattle.cell_types.specs.declared.error.What.TheVariants as T
 use Rattle.cell_types.proofs.NoFaults.{none_front, none_back, when_none}
 use Rattle.cell_types.proofs.SoundGrid.{grid_kept}
 use Rattle.cell_types.proofs.SoundMessages.{on_grid}
+use Rattle.cell_types.proofs.Paths.{PathLaws}
 use Rattle.routes.specs.Walks.{directions}
-use Rattle.routes.proofs.Hops.{hop_inside}
-use Rattle.refusals.specs.declared.refusal.Refusal.{Refusal}
-use Rattle.accept.specs.Answers.{IsNear, NamesNear}
-use Rattle.accept.specs.Told.{grid_of, static_refusal}
-use Rattle.accept.proofs.OneRefusal.{none_some}
+use Rattle.cell_types.specs.Near.{IsNear, NamesNear}
 
 -- ---- the first of some faults
 
@@ -152,7 +149,16 @@ module _ (cols : ℕ) where
 
 -- ---- declarations
 
-module _ (g : Extent) (grid : IsExtent g) where
+-- a hop from a cell of the grid leads to one
+hop_inside : PathLaws → (g : Extent) (cell : ℕ) (d : Dir) (next : ℕ) → cell < cell_count g → neighbour_of g cell d ≡ Some next
+    → next < cell_count g
+hop_inside laws g cell d next inside there =
+    laws.inside g cell next (link_id cell d ∷ []) inside (record {
+      leads = (d ∷ [], (refl, next, there, refl));
+      differ = λ i j d i_j j_0. absurd (omega arith);
+    })
+
+module _ (laws : PathLaws) (g : Extent) (grid : IsExtent g) where
   -- a `link` line
   links : (earlier : List LinkDecl) (l : LinkDecl) → Begins g.cols (link_faults g earlier l)
   links earlier l =
@@ -199,7 +205,7 @@ module _ (g : Extent) (grid : IsExtent g) where
       let link : ℕ = link_id cell d in
       hopped name line link used (neighbour_of g cell d) (λ next. walk_on g to (used ++ link ∷ []) next ds)
       (near_link g.cols cell d (near g cell grid inside))
-      (λ next there. walks name line to (used ++ link ∷ []) next ds (hop_inside g cell d next inside there))
+      (λ next there. walks name line to (used ++ link ∷ []) next ds (hop_inside laws g cell d next inside there))
 
   -- a `message` line
   messages : (earlier : List MessageDecl) (m : MessageDecl) → Begins g.cols (message_faults g earlier m)
@@ -243,9 +249,9 @@ module _ (g : Extent) (grid : IsExtent g) where
       (λ _. begins_when g.cols over (S.Limit L.Words v.line) tt)
 
 -- a cell
-cells : (s : WrittenSource) → IsExtent (extent_of s) → (earlier : List WrittenCell) (c : WrittenCell)
+cells : PathLaws → (s : WrittenSource) → IsExtent (extent_of s) → (earlier : List WrittenCell) (c : WrittenCell)
     → Begins s.cols (cell_faults s earlier c)
-cells s grid earlier c =
+cells laws s grid earlier c =
     let g : Extent = extent_of s in
     let index : ℕ = cell_index g c.place in
     let off : List StaticError = when (is_off_grid g c.place) (S.OutsideGrid c.line) in
@@ -259,13 +265,13 @@ cells s grid earlier c =
     (begins_append s.cols (off ++ twice) vars
     (begins_append s.cols off twice (begins_when s.cols (is_off_grid g c.place) (S.OutsideGrid c.line) tt)
     (λ e. begins_when s.cols taken (S.Twice (T.Cell index) c.line) (inside e)))
-    (λ _. begins_behind s.cols (var_faults known) (variables g grid known) [] c.vars))
+    (λ _. begins_behind s.cols (var_faults known) (variables laws g grid known) [] c.vars))
     (λ e. blocks s.cols (scope_of s c) c.body
     (inside (none_front off twice (none_front (off ++ twice) vars e))))
 
 -- a source
-sources : (s : WrittenSource) → Begins s.cols (source_faults s)
-sources s =
+sources : PathLaws → (s : WrittenSource) → Begins s.cols (source_faults s)
+sources laws s =
     let g : Extent = extent_of s in
     let array : List StaticError = array_faults s in
     let queues : List StaticError = queues_faults s in
@@ -281,11 +287,11 @@ sources s =
     (λ _. begins_append s.cols (when (is_outside 1 32 s.queues) (S.Limit L.Queues s.queues_line)) _
     (begins_when s.cols (is_outside 1 32 s.queues) (S.Limit L.Queues s.queues_line) tt)
     (λ _. begins_when s.cols (nat_lt 64 s.buffer) (S.Limit L.Buffer s.buffer_line) tt)))
-    (λ e. begins_behind s.cols (link_faults g) (links g (grid_kept s (none_front array queues e))) [] s.links))
+    (λ e. begins_behind s.cols (link_faults g) (links laws g (grid_kept s (none_front array queues e))) [] s.links))
     (λ e. begins_behind s.cols (message_faults g)
-    (messages g (grid_kept s (none_front array queues (none_front (array ++ queues) linked e)))) [] s.messages))
+    (messages laws g (grid_kept s (none_front array queues (none_front (array ++ queues) linked e)))) [] s.messages))
     (λ e. begins_behind s.cols (cell_faults s)
-    (cells s (grid_kept s (none_front array queues (none_front (array ++ queues) linked (none_front (array ++ queues ++ linked) sent e)))))
+    (cells laws s (grid_kept s (none_front array queues (none_front (array ++ queues) linked (none_front (array ++ queues ++ linked) sent e)))))
     [] s.cells)
 
 -- the first of a list
@@ -295,20 +301,11 @@ first_near cols (f ∷ fs) e h (inl same) = subst (NamesNear cols) (sym same) h
 first_near cols (f ∷ fs) e h (inr memory) = subst (NamesNear cols) (sym memory) tt
 
 -- the first fault of a source, or want of memory
-pub fault_near : (s : Source) (e : StaticError) → IsFirst (faults s) e → NamesNear s.cols e
-fault_near s e h = first_near s.cols (faults s) e (sources (written s)) h
+fault_near : PathLaws → (s : Source) (e : StaticError) → IsFirst (faults s) e → NamesNear s.cols e
+fault_near laws s e h = first_near s.cols (faults s) e (sources laws (written s)) h
 
--- the first fault is told by its refusal
-pub told_first : (s : Source) (e : StaticError) (r : Refusal) → IsFirst (faults s) e → static_refusal (grid_of s) e ≡ Some r
-    → (f : StaticError) × (slice_get (faults s) 0 ≡ Some f) × (static_refusal (grid_of s) f ≡ Some r)
-told_first s e r h told = (e, stands (faults s) h, told)
-  where
-    -- want of memory is told by none
-    not_memory : e ≡ S.Memory → ⊥
-    not_memory memory = none_some r (subst (λ f. static_refusal (grid_of s) f ≡ Some r) memory told)
-
-    -- what is first stands there
-    stands : (fs : List StaticError) → IsFirst fs e → slice_get fs 0 ≡ Some e
-    stands [] same = absurd (not_memory same)
-    stands (f ∷ fs) (inl same) = ap Some (sym same)
-    stands (f ∷ fs) (inr memory) = absurd (not_memory memory)
+-- the first fault of a source, where nothing is made of it
+pub error_near : {V : Type 0} → PathLaws → (s : Source) (made : Result V StaticError) → IfErr made (IsFirst (faults s))
+    → IfErr made (NamesNear s.cols)
+error_near laws s (Ok v) h = tt
+error_near laws s (Err e) h = fault_near laws s e h
