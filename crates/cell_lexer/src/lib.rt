@@ -18,6 +18,3 @@ pub use place::{Position, end_of};
 pub use scan::tokens;
 pub use sys_base::Key;
 pub use token::{Mark, Sort, Token};
-
-#[cfg(test)]
-mod tests;

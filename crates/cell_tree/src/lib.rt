@@ -16,6 +16,3 @@ pub use laws::printable_is_shallow;
 pub use print_source::print;
 pub use source::{CellDecl, LinkDecl, MessageDecl, Place, Source, VarDecl};
 pub use statement::{Act, Stmt};
-
-#[cfg(test)]
-mod tests;

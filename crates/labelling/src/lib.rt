@@ -11,6 +11,3 @@ mod sets;
 pub use falls::{Fall, check};
 pub use laws::{equal_where_neither_is_later, one_proposal, proposed_are_consistent};
 pub use proposal::propose;
-
-#[cfg(test)]
-mod tests;

@@ -1,22 +1,23 @@
 //! Labels of worked sources.
-use accept::build;
+use cell_lexer::tokens;
+use cell_parser::parse;
+use cell_types::resolve;
 use comm_sequence::{Seqs, cost, sequences};
 use labelling::{Fall, check, propose};
 use std::alloc::Global;
 use std::test::Fail;
 
-/// What the cells of an accepted source communicate.
+/// What the cells of a source communicate.
 fn communicated(alloc: Global, source: &[u8]) -> Result<Seqs, Fail> {
-    let Ok(built) = build(alloc, source) else {
-        return Err("refused".into());
-    };
-    if cost(&built.program).is_none() {
+    if source.len() > 1_048_576 {
+        return Err("too long".into());
+    }
+    let found = tokens(alloc, source)?;
+    let program = resolve(alloc, parse(alloc, source, &found)?)?;
+    if cost(&program).is_none() {
         return Err("too many steps".into());
     }
-    match sequences(alloc, &built.program) {
-        Ok(seqs) => Ok(seqs),
-        Err(_) => Err("arms differ".into()),
-    }
+    Ok(sequences(alloc, &program)?)
 }
 
 /// The messages below a number.
@@ -85,8 +86,14 @@ fn later_messages_have_greater_labels(rt: HostRuntime) -> Result<(), Fail> {
         proposed(alloc, 4, &[0, 1, 0, 2, 3, 2])?.as_slice(),
         [0, 0, 1, 1].as_slice()
     );
-    // A message without words has a label of its own.
+    // The order of the messages is another one.
+    assert_eq!(rt;
+        proposed(alloc, 3, &[2, 1, 0])?.as_slice(),
+        [2, 1, 0].as_slice()
+    );
+    // Messages without words have labels of their own.
     assert_eq!(rt; proposed(alloc, 2, &[0])?.as_slice(), [0, 1].as_slice());
+    assert_eq!(rt; proposed(alloc, 2, &[])?.as_slice(), [0, 1].as_slice());
     Ok(())
 }
 

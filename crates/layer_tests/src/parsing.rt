@@ -1,12 +1,13 @@
 use cell_lexer::tokens;
 use cell_parser::{ParseError, parse};
-use cell_tree::print;
+use cell_tree::{Source, print};
 use std::alloc::Global;
 use std::test::Fail;
+use sys_base::Items;
 
 /// Each form of declaration and of statement, in canonical form.
 #[test]
-fn reads_what_is_printed(rt: HostRuntime) -> Result<(), Fail> {
+fn prints_canonical_text_as_it_stands(rt: HostRuntime) -> Result<(), Fail> {
     let text = b"array 1 x 2;
 queues 1;
 link 0.0 E queues 2;
@@ -22,6 +23,9 @@ cell 0.0 {
     } else {
       take x;
     }
+    if 1 {
+    } else {
+    }
   }
 }
 cell 0.1 {
@@ -35,6 +39,92 @@ cell 0.1 {
     assert_eq!(rt; source.queues_line, 2);
     let printed = print(rt.alloc(), &source)?;
     assert_eq!(rt; printed.as_slice(), text.as_slice());
+    Ok(())
+}
+
+/// A source of one cell, in which this expression stands between these texts.
+fn emission(alloc: Global, before: &[u8], expr: &str, after: &[u8]) -> Result<Vec<u8>, Fail> {
+    let mut text = b"array 1 x 1;\nqueues 1;\ncell 0.0 {\n".to_vec(alloc)?;
+    text.extend_from_slice(before)?;
+    text.extend_from_slice(expr.as_bytes())?;
+    text.extend_from_slice(after)?;
+    Ok(text)
+}
+
+/// The canonical text of the source that emits this expression, where it is short.
+fn reprinted(alloc: Global, expr: &str) -> Result<Vec<u8>, Fail> {
+    let text = emission(alloc, b"emit ", expr, b";}")?;
+    if text.len() > 1000 {
+        return Err("too long".into());
+    }
+    let found = tokens(alloc, &text)?;
+    let source = parse(alloc, &text, &found)?;
+    Ok(print(alloc, &source)?)
+}
+
+/// An operator on each side of an operator, at each pair of levels, and what binds tighter on each side of each operator.
+#[test]
+fn prints_parentheses_just_where_they_are_needed(rt: HostRuntime) -> Result<(), Fail> {
+    let table = [
+        ["(1 <= 2) < 3", "1 < (2 <= 3)", "-1 <= a[2]", "a[2] < -x"],
+        ["1 + 2 == 3", "1 == 2 + 3", "-1 == a[2]", "a[2] == -x"],
+        ["1 % 2 != 3", "1 != 2 % 3", "-1 != a[2]", "a[2] != -x"],
+        ["(1 == 2) + 3", "1 + (2 == 3)", "-1 + a[2]", "a[2] + -x"],
+        ["1 - 2 - 3", "1 - (2 - 3)", "-1 - a[2]", "a[2] - -x"],
+        ["1 / 2 + 3", "1 + 2 / 3", "-1 < a[2]", "a[2] <= -x"],
+        ["(1 < 2) * 3", "1 * (2 < 3)", "-1 * a[2]", "a[2] * -x"],
+        ["(1 + 2) / 3", "1 / (2 + 3)", "-1 / a[2]", "a[2] / -x"],
+        ["1 * 2 % 3", "1 % (2 * 3)", "-1 % a[2]", "a[2] % -x"],
+        ["-1", "-x", "-a[1 + 2]", "-1 * -0"],
+        [
+            "-(-1)",
+            "-(1 * 2)",
+            "a[(1 < 2) + 3]",
+            "(1 + 2) * -(3 - x) - 4 % 5",
+        ],
+    ];
+    for row in table {
+        for expr in row {
+            let wanted = emission(rt.alloc(), b"  emit ", expr, b";\n}\n")?;
+            let printed = reprinted(rt.alloc(), expr)?;
+            assert_eq!(rt; printed.as_slice(), wanted.as_slice());
+        }
+    }
+    Ok(())
+}
+
+#[test]
+fn prints_other_text_in_canonical_form(rt: HostRuntime) -> Result<(), Fail> {
+    let table = [
+        ("(1+2)*-(3-x)-4%5", "(1 + 2) * -(3 - x) - 4 % 5"),
+        ("((1)) +\n(2*3) # six\n", "1 + 2 * 3"),
+    ];
+    for (expr, canonical) in table {
+        let wanted = emission(rt.alloc(), b"  emit ", canonical, b";\n}\n")?;
+        let printed = reprinted(rt.alloc(), expr)?;
+        assert_eq!(rt; printed.as_slice(), wanted.as_slice());
+    }
+    Ok(())
+}
+
+/// No text that can be read has this line yet.
+#[test]
+fn prints_a_buffer(rt: HostRuntime) -> Result<(), Fail> {
+    let source = Source {
+        rows: 1,
+        cols: 2,
+        array_line: 1,
+        queues: 1,
+        queues_line: 2,
+        buffer: 3,
+        buffer_line: 3,
+        links: Items::new(rt.alloc()),
+        messages: Items::new(rt.alloc()),
+        cells: Items::new(rt.alloc()),
+    };
+    let text = print(rt.alloc(), &source)?;
+    let wanted = b"array 1 x 2;\nqueues 1;\nbuffer 3;\n";
+    assert_eq!(rt; text.as_slice(), wanted.as_slice());
     Ok(())
 }
 

@@ -1,44 +1,14 @@
-ghost use Rattle.std.specs.Prelude.{◌≡◌, []};
-
-use cell_tree::Source;
+use cell_lexer::tokens;
+use cell_parser::parse;
 use cell_types::resolve;
-use std::alloc::Global;
 use std::test::Fail;
-use sys_base::Items;
-
-/// A source of one cell, in which nothing else is declared.
-fn idle(alloc: Global) -> Source
-    ensures { result ≡ record {
-      rows = 1;
-      cols = 1;
-      array_line = 1;
-      queues = 1;
-      queues_line = 2;
-      buffer = 0;
-      buffer_line = 0;
-      links = [];
-      messages = [];
-      cells = [];
-    } }
-{
-    Source {
-        rows: 1,
-        cols: 1,
-        array_line: 1,
-        queues: 1,
-        queues_line: 2,
-        buffer: 0,
-        buffer_line: 0,
-        links: Items::new(alloc),
-        messages: Items::new(alloc),
-        cells: Items::new(alloc),
-    }
-}
 
 /// A grid of one cell without a program.
 #[test]
 fn one_idle_cell(rt: HostRuntime) -> Result<(), Fail> {
-    let program = resolve(rt.alloc(), idle(rt.alloc()))?;
+    let text = b"array 1 x 1; queues 1;";
+    let found = tokens(rt.alloc(), text)?;
+    let program = resolve(rt.alloc(), parse(rt.alloc(), text, &found)?)?;
     assert_eq!(rt; program.grid().cells(), 1);
     assert_eq!(rt; program.queues(), [0, 0, 0, 0].as_slice());
     assert_eq!(rt; program.messages().len(), 0);

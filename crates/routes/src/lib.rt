@@ -10,6 +10,3 @@ mod walk;
 pub use error::RouteError;
 pub use laws::{one_route, path_bounds};
 pub use route::route_of;
-
-#[cfg(test)]
-mod tests;

@@ -15,6 +15,3 @@ pub use key::Key;
 pub use kinds::{Dir, Kind, Limit, Op};
 pub use memory::Memory;
 pub use name::{NAME_BYTES, Name};
-
-#[cfg(test)]
-mod tests;

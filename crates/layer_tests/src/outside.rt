@@ -1,7 +1,9 @@
-use super::*;
 use std::alloc::Global;
 use std::test::Fail;
 use std::{env, fs, process};
+use sys_outside::{
+    Fetched, FileShelf, MemShelf, MemSink, Shelf, Sink, StreamSink, SureShelf, SureSink,
+};
 
 const NAME: &str = "letters";
 

@@ -1,4 +1,4 @@
-use crate::{Key, LexError, Mark, Position, Sort, Token, end_of, tokens};
+use cell_lexer::{Key, LexError, Mark, Position, Sort, Token, end_of, tokens};
 use std::test::Fail;
 
 const NAME: Sort = Sort::Name;

@@ -1,4 +1,4 @@
-use crate::{RouteError, route_of};
+use routes::{RouteError, route_of};
 use std::test::Fail;
 use sys_base::{Dir, Grid};
 

@@ -1,5 +1,5 @@
-use crate::{Dir, Grid, Items, Name};
 use std::test::Fail;
+use sys_base::{Dir, Grid, Items, Name};
 
 #[test]
 fn names(rt: HostRuntime) -> Result<(), Fail> {
