@@ -18,7 +18,7 @@ use Rattle.refusals.specs.declared.refusal.Refusal.{Refusal}
 use Rattle.refusals.specs.declared.refusal.Refusal.TheVariants as R
 use Rattle.accept.specs.Answers.{IsFound}
 use Rattle.accept.specs.Built.{IsJudged}
-use Rattle.accept.specs.FirstRefusal.{IsCostly, HasUnlikeArms, IsStalled, HasSomeLabels, HasFallingLabels, HasTooFewQueues, IsOverBound, program_trials, IsFirstOf, PassesAll}
+use Rattle.accept.specs.FirstRefusal.{IsCostly, HasUnlikeArms, IsStalled, HasSomeLabels, HasFallingLabels, HasTooFewQueues, IsOverBound, label_trials, program_trials, IsFirstOf, PassesAll}
 use Rattle.accept.specs.Labelled.{AreLabels, has_label, first_unlabelled, lacks_of}
 use Rattle.accept.specs.Laws.{Laws}
 use Rattle.accept.specs.Reading.{unlike}
@@ -90,77 +90,82 @@ module _ (laws : Laws) (p : ProgramCode) where
             let stuck = (stalling p q h).2 in
             stuck.1.no_order order empty.is_order
 
-        -- a message without a label comes next
-        pub lacking_first : (e : AcceptError) → IsFound HasSomeLabels p e → IsFound (IsFirstOf program_trials) p e
-        lacking_first e h =
-            found HasSomeLabels (IsFirstOf program_trials) p e
-            (λ r k. inr (not_costly, inr (not_unlike, inr (not_stalled, inl k)))) h
+        -- a refusal of the labels, the queues or the bound comes next
+        pub behind_order : (e : AcceptError) → IsFound (IsFirstOf label_trials) p e → IsFound (IsFirstOf program_trials) p e
+        behind_order e h =
+            found (IsFirstOf label_trials) (IsFirstOf program_trials) p e
+            (λ r k. inr (not_costly, inr (not_unlike, inr (not_stalled, k)))) h
 
-        module _ (labels : List ℕ) (are : AreLabels p labels) where
-          -- where there are labels, each message has one, or none has
-          not_lacking : Never HasSomeLabels p
-          not_lacking q h =
-              let (name, (some, first), same) = lacking p q h in
-              none_some name (sym (all_labelled p.messages labels (are.given some)) ∙ first)
+        -- where none of those applies, none does
+        pub passes_all : PassesAll label_trials p → PassesAll program_trials p
+        passes_all rest = (not_costly, (not_unlike, (not_stalled, rest)))
 
-          -- a fall comes next
-          pub falling_first : (e : AcceptError) → IsFound HasFallingLabels p e → IsFound (IsFirstOf program_trials) p e
-          falling_first e h =
-              found HasFallingLabels (IsFirstOf program_trials) p e
-              (λ r k. inr (not_costly, inr (not_unlike, inr (not_stalled, inr (not_lacking, inl k))))) h
+  -- a message without a label comes first of the labels, the queues and the bound
+  pub lacking_first : (e : AcceptError) → IsFound HasSomeLabels p e → IsFound (IsFirstOf label_trials) p e
+  lacking_first e h = found HasSomeLabels (IsFirstOf label_trials) p e (λ r k. inl k) h
 
-          module _ (consistent : IsConsistent (sequences_of p).lists labels) where
-            -- consistent labels don't fall
-            not_falling : Never HasFallingLabels p
-            not_falling q (others, them, fall, falls, same) =
-                let one : others ≡ labels = one_labelling laws p others labels them are in
-                let at : FallsAt (slice_index_or (sequences_of p).lists fall.cell []) labels fall.at fall.before fall.after =
-                subst (λ ls. FallsAt (slice_index_or (sequences_of p).lists fall.cell []) ls fall.at fall.before fall.after) one falls.falls in
-                let second = subst (λ n. option_map message_of (slice_get (slice_index_or (sequences_of p).lists fall.cell []) n) ≡ Some fall.after) at.next at.second in
-                let rises = consistent fall.before fall.after
-                (record { cell = fall.cell; place = at.place; first = at.first; second = second }) in
-                absurd (omega (arith, at.lower, rises))
+  module _ (labels : List ℕ) (are : AreLabels p labels) where
+    -- where there are labels, each message has one, or none has
+    not_lacking : Never HasSomeLabels p
+    not_lacking q h =
+        let (name, (some, first), same) = lacking p q h in
+        none_some name (sym (all_labelled p.messages labels (are.given some)) ∙ first)
 
-            -- a lack of queues comes next
-            pub few_first : (e : AcceptError) → IsFound HasTooFewQueues p e → IsFound (IsFirstOf program_trials) p e
-            few_first e h =
-                found HasTooFewQueues (IsFirstOf program_trials) p e
-                (λ r k. inr (not_costly, inr (not_unlike, inr (not_stalled, inr (not_lacking, inr (not_falling, inl k)))))) h
+    -- a fall comes next
+    pub falling_first : (e : AcceptError) → IsFound HasFallingLabels p e → IsFound (IsFirstOf label_trials) p e
+    falling_first e h = found HasFallingLabels (IsFirstOf label_trials) p e (λ r k. inr (not_lacking, inl k)) h
 
-            module _ (enough : lacks_of p labels ≡ []) where
-              -- where no link lacks queues, there is no first lack
-              not_few : Never HasTooFewQueues p
-              not_few q (others, them, lack, first, same) =
-                  let one : others ≡ labels = one_labelling laws p others labels them are in
-                  none_some lack (sym (ap (λ ls. slice_get (lacks_of p ls) 0) one ∙ ap (λ ls. slice_get ls 0) enough) ∙ first)
+    module _ (consistent : IsConsistent (sequences_of p).lists labels) where
+      -- consistent labels don't fall
+      not_falling : Never HasFallingLabels p
+      not_falling q (others, them, fall, falls, same) =
+          let one : others ≡ labels = one_labelling laws p others labels them are in
+          let at : FallsAt (slice_index_or (sequences_of p).lists fall.cell []) labels fall.at fall.before fall.after =
+          subst (λ ls. FallsAt (slice_index_or (sequences_of p).lists fall.cell []) ls fall.at fall.before fall.after) one falls.falls in
+          let second = subst (λ n. option_map message_of (slice_get (slice_index_or (sequences_of p).lists fall.cell []) n) ≡ Some fall.after) at.next at.second in
+          let rises = consistent fall.before fall.after
+          (record { cell = fall.cell; place = at.place; first = at.first; second = second }) in
+          absurd (omega (arith, at.lower, rises))
 
-              -- a bound above the limit comes last
-              pub over_first : (n : ℕ) (e : AcceptError) → n ≡ bound p labels → (4194304 < n) × (e ≡ A.Refused (R.Bound n))
-                  → IsFound (IsFirstOf program_trials) p e
-              over_first n e is (over, same) =
-                  let last : IsOverBound p (R.Bound n) = (labels, are, subst (λ k. 4194304 < k) is over, ap (λ k. R.Bound k) is) in
-                  subst (IsFound (IsFirstOf program_trials) p) (sym same)
-                  (inr (not_costly, inr (not_unlike, inr (not_stalled, inr (not_lacking, inr (not_falling, inr (not_few, inl last)))))))
+      -- a lack of queues comes next
+      pub few_first : (e : AcceptError) → IsFound HasTooFewQueues p e → IsFound (IsFirstOf label_trials) p e
+      few_first e h =
+          found HasTooFewQueues (IsFirstOf label_trials) p e (λ r k. inr (not_lacking, inr (not_falling, inl k))) h
 
-              module _ (n : ℕ) (is : n ≡ bound p labels) (within : n ≤ 4194304) where
-                -- a bound within the limit isn't above it
-                not_over : Never IsOverBound p
-                not_over q (others, them, over, same) =
-                    let one : others ≡ labels = one_labelling laws p others labels them are in
-                    absurd (omega (arith, subst (λ ls. 4194304 < bound p ls) one over, is, within))
+      module _ (enough : lacks_of p labels ≡ []) where
+        -- where no link lacks queues, there is no first lack
+        not_few : Never HasTooFewQueues p
+        not_few q (others, them, lack, first, same) =
+            let one : others ≡ labels = one_labelling laws p others labels them are in
+            none_some lack (sym (ap (λ ls. slice_get (lacks_of p ls) 0) one ∙ ap (λ ls. slice_get ls 0) enough) ∙ first)
 
-                -- then no trial applies
-                pub passes : PassesAll program_trials p
-                passes = (not_costly, (not_unlike, (not_stalled, (not_lacking, (not_falling, (not_few, (not_over, tt)))))))
+        -- a bound above the limit comes last
+        pub over_first : (n : ℕ) (e : AcceptError) → n ≡ bound p labels → (4194304 < n) × (e ≡ A.Refused (R.Bound n))
+            → IsFound (IsFirstOf label_trials) p e
+        over_first n e is (over, same) =
+            let last : IsOverBound p (R.Bound n) = (labels, are, subst (λ k. 4194304 < k) is over, ap (λ k. R.Bound k) is) in
+            subst (IsFound (IsFirstOf label_trials) p) (sym same)
+            (inr (not_lacking, inr (not_falling, inr (not_few, inl last))))
 
-                -- and this is what there is
-                pub judged : IsJudged p order labels n
-                judged = record {
-                  crossing = empty.is_order;
-                  crossed = empty.rule;
-                  labels_are = are;
-                  consistent = consistent;
-                  enough = enough;
-                  bound_is = is;
-                  within = within;
-                }
+        module _ (n : ℕ) (is : n ≡ bound p labels) (within : n ≤ 4194304) where
+          -- a bound within the limit isn't above it
+          not_over : Never IsOverBound p
+          not_over q (others, them, over, same) =
+              let one : others ≡ labels = one_labelling laws p others labels them are in
+              absurd (omega (arith, subst (λ ls. 4194304 < bound p ls) one over, is, within))
+
+          -- then none of these trials applies
+          pub passes : PassesAll label_trials p
+          passes = (not_lacking, (not_falling, (not_few, (not_over, tt))))
+
+          -- and this is what there is, with a crossing order
+          pub judged : (order : List ℕ) → IsEmpty (sequences_of p) order → IsJudged p order labels n
+          judged order empty = record {
+            crossing = empty.is_order;
+            crossed = empty.rule;
+            labels_are = are;
+            consistent = consistent;
+            enough = enough;
+            bound_is = is;
+            within = within;
+          }

@@ -100,16 +100,20 @@ pub data Trials (A : Type 0) : Type 1 where
   Passed : Trials A
   Try : (Applies : A → Refusal → Type 0) → (rest : Trials A) → Trials A
 
+-- the refusals of a program's labels, queues and bound
+abbrev pub label_trials : Trials ProgramCode
+label_trials =
+    Try HasSomeLabels (
+    Try HasFallingLabels (
+    Try HasTooFewQueues (
+    Try IsOverBound Passed)))
+
 -- the refusals of a program
 abbrev pub program_trials : Trials ProgramCode
 program_trials =
     Try IsCostly (
     Try HasUnlikeArms (
-    Try IsStalled (
-    Try HasSomeLabels (
-    Try HasFallingLabels (
-    Try HasTooFewQueues (
-    Try IsOverBound Passed))))))
+    Try IsStalled label_trials))
 
 -- The refusal applies to the program of the text's source.
 abbrev pub OfSource : (ProgramCode → Refusal → Type 0) → List ℕ → Refusal → Type 0

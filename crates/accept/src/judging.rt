@@ -1,5 +1,6 @@
 //! What is made of a program, or its first refusal.
-ghost use Rattle.std.specs.Prelude.{◌≡◌, ◌<◌, ◌≤◌, IfOk, IfErr};
+ghost use Rattle.std.specs.Prelude.{◌≡◌, ℕ, ◌<◌, ◌≤◌, List, IfOk, IfErr};
+ghost use Rattle.cell_types.specs.Cost.{cells_cost};
 ghost use Rattle.cell_types.specs.Sound.{IsSound};
 ghost use Rattle.cell_types.specs.Typed.{plain};
 ghost use Rattle.comm_sequence.specs.Sequences.{sequences_of};
@@ -7,7 +8,7 @@ ghost use Rattle.crossing_off.specs.Answer.{IsEmpty};
 ghost use Rattle.refusals.specs.declared.refusal.Refusal.TheVariants as R;
 ghost use Rattle.accept.specs.Answers.{IsFound};
 ghost use Rattle.accept.specs.Built.{IsJudged};
-ghost use Rattle.accept.specs.FirstRefusal.{IsFirstOf, IsStalled, PassesAll, program_trials};
+ghost use Rattle.accept.specs.FirstRefusal.{IsFirstOf, IsStalled, PassesAll, label_trials, program_trials};
 ghost use Rattle.accept.specs.declared.building.AcceptError.TheVariants as A;
 
 use crate::building::{AcceptError, Built};
@@ -38,17 +39,38 @@ pub fn judged(alloc: Global, program: Program) -> Result<Built, AcceptError>
     };
     let seqs = sequences(alloc, &program)?;
     let order = crossing_order(alloc, &program, &seqs)?;
-    let labels = labels_of(alloc, &program, &seqs)?;
-    never_fall(&program, &seqs, &labels)?;
-    let groups = fitting_groups(alloc, &program, &seqs, &labels)?;
-    let sum = bound_of(&program, &seqs, &groups, steps);
-    let bound = limited(sum)?;
+    let (labels, bound) = bounded(alloc, &program, &seqs, steps)?;
     Ok(Built {
         program,
         order,
         labels,
         bound,
     })
+}
+
+/// The labels and the bound of a program, or the first refusal of its labels, its queues and its bound. Its cells take so many
+/// steps.
+fn bounded(
+    alloc: Global,
+    program: &Program,
+    seqs: &Seqs,
+    steps: u32,
+) -> Result<(Vec<u16>, u32), AcceptError>
+    requires seqs { seqs.now ≡ sequences_of (plain program.now) }
+    requires steps { steps ≡ cells_cost (plain program.now) }
+    requires few { steps ≤ 4194304 }
+    ensures passes { IfOk result (λ _. PassesAll label_trials (plain program.now)) }
+    ensures judged { IfOk result (λ r. (order : List ℕ) → IsEmpty (sequences_of (plain program.now)) order
+        → IsJudged (plain program.now) order r.0.items r.1) }
+    ensures refused { IfErr result (IsFound (IsFirstOf label_trials) (plain program.now)) }
+{
+    laws_below();
+    let labels = labels_of(alloc, program, seqs)?;
+    never_fall(program, seqs, &labels)?;
+    let groups = fitting_groups(alloc, program, seqs, &labels)?;
+    let sum = bound_of(program, seqs, &groups, steps);
+    let bound = limited(sum)?;
+    Ok((labels, bound))
 }
 
 /// The crossing order of the greedy rule, or the refusal of a program that has none.

@@ -1,58 +1,28 @@
-use Rattle.std.proofs.Common.{◌∙◌}
 use Rattle.cell_types.specs.Typed.{plain}
 use Rattle.accept.specs.Answers.{IsFound}
 use Rattle.accept.specs.FirstRefusal.{IsFirstOf, program_trials}
-use Rattle.accept.proofs.Judged.{bound_is, stalled_first, lacking_first, falling_first, few_first, over_first, passes, judged}
+use Rattle.accept.proofs.Judged.{behind_order, passes_all, stalled_first}
 use Rattle.accept.proofs.Refused.{handed_on}
 use Rattle.accept.proofs.judging.judged.Goals as goal
 
 pub returns-in_err-order-clause-refused : goal.returns-in_err-order-clause-refused
 returns-in_err-order-clause-refused c =
     handed_on (IsFound (IsFirstOf program_trials) (plain c.args.program)) _ c.in_err-order.field-0.0 c.from_residual-in_err-order.ensures.1
-    (stalled_first c.laws_below.ensures (plain c.args.program) c.in-Some.ensures.1 ((c.laws_below.ensures.alike (plain c.args.program)).0 c.in_ok-seqs.ensures.sequences.0) c.in_err-order.field-0.0 c.in_err-order.ensures.refused)
+    (stalled_first c.laws_below.ensures (plain c.args.program) c.in-Some.ensures.1
+    ((c.laws_below.ensures.alike (plain c.args.program)).0 c.in_ok-seqs.ensures.sequences.0) c.in_err-order.field-0.0 c.in_err-order.ensures.refused)
 
 pub returns-in_err-labels-clause-refused : goal.returns-in_err-labels-clause-refused
 returns-in_err-labels-clause-refused c =
     handed_on (IsFound (IsFirstOf program_trials) (plain c.args.program)) _ c.in_err-labels.field-0.0 c.from_residual-in_err-labels.ensures.1
-    (lacking_first c.laws_below.ensures (plain c.args.program) c.in-Some.ensures.1 ((c.laws_below.ensures.alike (plain c.args.program)).0 c.in_ok-seqs.ensures.sequences.0) c.in_ok-order.order.items c.in_ok-order.ensures.empty c.in_err-labels.field-0.0 c.in_err-labels.ensures.refused)
-
-pub returns-in_err-never_fall-clause-refused : goal.returns-in_err-never_fall-clause-refused
-returns-in_err-never_fall-clause-refused c =
-    handed_on (IsFound (IsFirstOf program_trials) (plain c.args.program)) _ c.in_err-never_fall.field-0.0 c.from_residual-in_err-never_fall.ensures.1
-    (falling_first c.laws_below.ensures (plain c.args.program) c.in-Some.ensures.1 ((c.laws_below.ensures.alike (plain c.args.program)).0 c.in_ok-seqs.ensures.sequences.0) c.in_ok-order.order.items c.in_ok-order.ensures.empty c.in_ok-labels.labels.items c.in_ok-labels.ensures.labels c.in_err-never_fall.field-0.0 c.in_err-never_fall.ensures.refused)
-
-pub returns-in_err-groups-clause-refused : goal.returns-in_err-groups-clause-refused
-returns-in_err-groups-clause-refused c =
-    handed_on (IsFound (IsFirstOf program_trials) (plain c.args.program)) _ c.in_err-groups.field-0.0 c.from_residual-in_err-groups.ensures.1
-    (few_first c.laws_below.ensures (plain c.args.program) c.in-Some.ensures.1 ((c.laws_below.ensures.alike (plain c.args.program)).0 c.in_ok-seqs.ensures.sequences.0) c.in_ok-order.order.items c.in_ok-order.ensures.empty c.in_ok-labels.labels.items c.in_ok-labels.ensures.labels (rw c.deref.ensures.value at c.in_ok-never_fall.ensures.consistent) c.in_err-groups.field-0.0 c.in_err-groups.ensures.refused)
-
-pub returns-in_err-bound-clause-refused : goal.returns-in_err-bound-clause-refused
-returns-in_err-bound-clause-refused c =
-    handed_on (IsFound (IsFirstOf program_trials) (plain c.args.program)) _ c.in_err-bound.field-0.0 c.from_residual-in_err-bound.ensures.1
-    (over_first c.laws_below.ensures (plain c.args.program) c.in-Some.ensures.1
+    (behind_order c.laws_below.ensures (plain c.args.program) c.in-Some.ensures.1
     ((c.laws_below.ensures.alike (plain c.args.program)).0 c.in_ok-seqs.ensures.sequences.0) c.in_ok-order.order.items c.in_ok-order.ensures.empty
-    c.in_ok-labels.labels.items c.in_ok-labels.ensures.labels (rw c.deref.ensures.value at c.in_ok-never_fall.ensures.consistent)
-    (rw c.deref-2.ensures.value at c.in_ok-groups.ensures.enough)
-    c.bound_of-sum.result c.in_err-bound.field-0.0 (bound_is c.laws_below.ensures (plain c.args.program) c.in_ok-labels.labels.items c.in_ok-groups.groups c.bound_of-sum.result
-    (rw c.deref-2.ensures.value at c.in_ok-groups.ensures.groups) c.bound_of-sum.ensures)
-    c.in_err-bound.ensures.refused)
+    c.in_err-labels.field-0.0 c.in_err-labels.ensures.refused)
 
 pub returns-clause-passes : goal.returns-clause-passes
 returns-clause-passes c =
-    passes c.laws_below.ensures (plain c.args.program) c.in-Some.ensures.1
+    passes_all c.laws_below.ensures (plain c.args.program) c.in-Some.ensures.1
     ((c.laws_below.ensures.alike (plain c.args.program)).0 c.in_ok-seqs.ensures.sequences.0) c.in_ok-order.order.items c.in_ok-order.ensures.empty
-    c.in_ok-labels.labels.items c.in_ok-labels.ensures.labels (rw c.deref.ensures.value at c.in_ok-never_fall.ensures.consistent)
-    (rw c.deref-2.ensures.value at c.in_ok-groups.ensures.enough)
-    c.in_ok-bound.bound (c.in_ok-bound.ensures.within.0 ∙ (bound_is c.laws_below.ensures (plain c.args.program) c.in_ok-labels.labels.items c.in_ok-groups.groups c.bound_of-sum.result
-    (rw c.deref-2.ensures.value at c.in_ok-groups.ensures.groups) c.bound_of-sum.ensures))
-    c.in_ok-bound.ensures.within.1
+    c.in_ok-labels.ensures.passes
 
 pub returns-clause-judged : goal.returns-clause-judged
-returns-clause-judged c =
-    judged c.laws_below.ensures (plain c.args.program) c.in-Some.ensures.1
-    ((c.laws_below.ensures.alike (plain c.args.program)).0 c.in_ok-seqs.ensures.sequences.0) c.in_ok-order.order.items c.in_ok-order.ensures.empty
-    c.in_ok-labels.labels.items c.in_ok-labels.ensures.labels (rw c.deref.ensures.value at c.in_ok-never_fall.ensures.consistent)
-    (rw c.deref-2.ensures.value at c.in_ok-groups.ensures.enough)
-    c.in_ok-bound.bound (c.in_ok-bound.ensures.within.0 ∙ (bound_is c.laws_below.ensures (plain c.args.program) c.in_ok-labels.labels.items c.in_ok-groups.groups c.bound_of-sum.result
-    (rw c.deref-2.ensures.value at c.in_ok-groups.ensures.groups) c.bound_of-sum.ensures))
-    c.in_ok-bound.ensures.within.1
+returns-clause-judged c = c.in_ok-labels.ensures.judged c.in_ok-order.order.items c.in_ok-order.ensures.empty
