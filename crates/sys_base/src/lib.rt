@@ -8,6 +8,7 @@ mod key;
 mod kinds;
 mod memory;
 mod name;
+mod shared;
 
 pub use grid::Grid;
 pub use items::Items;
@@ -15,3 +16,4 @@ pub use key::Key;
 pub use kinds::{Dir, Kind, Limit, Op};
 pub use memory::Memory;
 pub use name::{NAME_BYTES, Name};
+pub use shared::Shared;
