@@ -1,4 +1,5 @@
 ghost use Rattle.std.specs.Prelude.{◌≡◌, ℕ, ◌<◌, ◌≤◌, length, IfOk, IfErr};
+ghost use Rattle.sys_base.specs.Name.{IsName};
 ghost use Rattle.cell_parser.specs.Machine.{Called, Want, WantAtom};
 ghost use Rattle.cell_parser.specs.Reading.{AreTokens, IsOperand, NoOperand, IsWhole, NoWhole, a_term, a_sum, a_whole};
 
@@ -8,18 +9,34 @@ use crate::names::Names;
 use crate::operator::{additive, comparison, index, minus, product};
 use cell_lexer::{Mark, Token};
 use cell_tree::Expr;
-use sqlite_items::Boxed;
 use std::alloc::Global;
-use sys_base::{Name, Op};
+use sys_base::{Name, Op, Shared};
 
 /// A whole expression with this mark behind it, and the tokens behind that.
-#[cycle(expression)]
 pub(crate) fn expression<'a>(
     names: &Names,
     end: Mark,
     text: &[u8],
     tokens: &'a [Token],
 ) -> Result<(Expr, &'a [Token]), Fault>
+    requires { AreTokens text.now tokens.now }
+    ensures read { IfOk result (λ r. IsWhole text.now end tokens.now r.0 r.1.now) }
+    ensures wrong { IfErr result (λ e. NoWhole text.now end tokens.now e) }
+    ensures shorter { IfOk result (λ r. length r.1.now < length tokens.now) }
+    ensures kept { IfOk result (λ r. AreTokens text.now r.1.now) }
+{
+    let (value, rest) = ended(names, end, text, tokens)?;
+    Ok((taken(value)?, rest))
+}
+
+/// A whole expression with this mark behind it, and the tokens behind that.
+#[cycle(expression)]
+fn ended<'a>(
+    names: &Names,
+    end: Mark,
+    text: &[u8],
+    tokens: &'a [Token],
+) -> Result<(Shared<Expr>, &'a [Token]), Fault>
     requires { AreTokens text.now tokens.now }
     ensures read { IfOk result (λ r. IsWhole text.now end tokens.now r.0 r.1.now) }
     ensures wrong { IfErr result (λ e. NoWhole text.now end tokens.now e) }
@@ -33,7 +50,11 @@ pub(crate) fn expression<'a>(
 
 /// A comparison or a sum, and the tokens behind it.
 #[cycle(expression)]
-fn whole<'a>(names: &Names, text: &[u8], tokens: &'a [Token]) -> Result<(Expr, &'a [Token]), Fault>
+fn whole<'a>(
+    names: &Names,
+    text: &[u8],
+    tokens: &'a [Token],
+) -> Result<(Shared<Expr>, &'a [Token]), Fault>
     requires { AreTokens text.now tokens.now }
     ensures read { IfOk result (λ r. IsOperand text.now a_whole tokens.now r.0 r.1.now) }
     ensures wrong { IfErr result (λ e. NoOperand text.now a_whole tokens.now e) }
@@ -52,7 +73,11 @@ fn whole<'a>(names: &Names, text: &[u8], tokens: &'a [Token]) -> Result<(Expr, &
 
 /// A sum, and the tokens behind it.
 #[cycle(expression)]
-fn sum<'a>(names: &Names, text: &[u8], tokens: &'a [Token]) -> Result<(Expr, &'a [Token]), Fault>
+fn sum<'a>(
+    names: &Names,
+    text: &[u8],
+    tokens: &'a [Token],
+) -> Result<(Shared<Expr>, &'a [Token]), Fault>
     requires { AreTokens text.now tokens.now }
     ensures read { IfOk result (λ r. IsOperand text.now a_sum tokens.now r.0 r.1.now) }
     ensures wrong { IfErr result (λ e. NoOperand text.now a_sum tokens.now e) }
@@ -70,7 +95,11 @@ fn sum<'a>(names: &Names, text: &[u8], tokens: &'a [Token]) -> Result<(Expr, &'a
 
 /// A term, and the tokens behind it.
 #[cycle(expression)]
-fn term<'a>(names: &Names, text: &[u8], tokens: &'a [Token]) -> Result<(Expr, &'a [Token]), Fault>
+fn term<'a>(
+    names: &Names,
+    text: &[u8],
+    tokens: &'a [Token],
+) -> Result<(Shared<Expr>, &'a [Token]), Fault>
     requires { AreTokens text.now tokens.now }
     ensures read { IfOk result (λ r. IsOperand text.now a_term tokens.now r.0 r.1.now) }
     ensures wrong { IfErr result (λ e. NoOperand text.now a_term tokens.now e) }
@@ -88,7 +117,11 @@ fn term<'a>(names: &Names, text: &[u8], tokens: &'a [Token]) -> Result<(Expr, &'
 
 /// An operand with a minus or without, and the tokens behind it.
 #[cycle(expression)]
-fn unary<'a>(names: &Names, text: &[u8], tokens: &'a [Token]) -> Result<(Expr, &'a [Token]), Fault>
+fn unary<'a>(
+    names: &Names,
+    text: &[u8],
+    tokens: &'a [Token],
+) -> Result<(Shared<Expr>, &'a [Token]), Fault>
     requires { AreTokens text.now tokens.now }
     ensures read { IfOk result (λ r. IsOperand text.now Want tokens.now r.0 r.1.now) }
     ensures wrong { IfErr result (λ e. NoOperand text.now Want tokens.now e) }
@@ -106,7 +139,11 @@ fn unary<'a>(names: &Names, text: &[u8], tokens: &'a [Token]) -> Result<(Expr, &
 
 /// An operand without a minus, and the tokens behind it.
 #[cycle(expression)]
-fn atom<'a>(names: &Names, text: &[u8], tokens: &'a [Token]) -> Result<(Expr, &'a [Token]), Fault>
+fn atom<'a>(
+    names: &Names,
+    text: &[u8],
+    tokens: &'a [Token],
+) -> Result<(Shared<Expr>, &'a [Token]), Fault>
     requires { AreTokens text.now tokens.now }
     ensures read { IfOk result (λ r. IsOperand text.now WantAtom tokens.now r.0 r.1.now) }
     ensures wrong { IfErr result (λ e. NoOperand text.now WantAtom tokens.now e) }
@@ -114,14 +151,13 @@ fn atom<'a>(names: &Names, text: &[u8], tokens: &'a [Token]) -> Result<(Expr, &'
     ensures kept { IfOk result (λ r. AreTokens text.now r.1.now) }
 {
     if let Some((number, rest)) = next_number(tokens) {
-        return Ok((Expr::Number(number), rest));
+        return Ok((names.number(number)?, rest));
     }
     if let Some((bytes, _, rest)) = next_name(text, tokens) {
-        let name = names.name(bytes)?;
-        return called(names, text, name, rest);
+        return called(names, text, bytes, rest);
     }
     match after_mark(Mark::OpenParen, tokens) {
-        Some(after) => expression(names, Mark::CloseParen, text, after),
+        Some(after) => ended(names, Mark::CloseParen, text, after),
         None => Err(unexpected(tokens)),
     }
 }
@@ -131,42 +167,73 @@ fn atom<'a>(names: &Names, text: &[u8], tokens: &'a [Token]) -> Result<(Expr, &'
 fn called<'a>(
     names: &Names,
     text: &[u8],
-    name: Name,
+    name: &[u8],
     tokens: &'a [Token],
-) -> Result<(Expr, &'a [Token]), Fault>
-    requires { AreTokens text.now tokens.now }
-    ensures read { IfOk result (λ r. IsOperand text.now (Called name) tokens.now r.0 r.1.now) }
-    ensures wrong { IfErr result (λ e. NoOperand text.now (Called name) tokens.now e) }
+) -> Result<(Shared<Expr>, &'a [Token]), Fault>
+    requires tokens { AreTokens text.now tokens.now }
+    requires name { IsName name.now }
+    ensures read { IfOk result (λ r. IsOperand text.now (Called name.now) tokens.now r.0 r.1.now) }
+    ensures wrong { IfErr result (λ e. NoOperand text.now (Called name.now) tokens.now e) }
     ensures shorter { IfOk result (λ r. length r.1.now ≤ length tokens.now) }
     ensures kept { IfOk result (λ r. AreTokens text.now r.1.now) }
 {
     match index(tokens) {
         Some(after) => {
-            let (value, rest) = expression(names, Mark::CloseBracket, text, after)?;
+            let (value, rest) = ended(names, Mark::CloseBracket, text, after)?;
+            let name = names.name(name)?;
             Ok((element(names.alloc, name, value)?, rest))
         }
-        None => Ok((Expr::Named(name), tokens)),
+        None => Ok((names.named(name)?, tokens)),
     }
 }
 
-fn binary(alloc: Global, op: Op, left: Expr, right: Expr) -> Result<Expr, Fault>
+/// An expression, taken out of its pointer or, where it is shared, copied.
+fn taken(shared: Shared<Expr>) -> Result<Expr, Fault>
+    ensures same { IfOk result (λ e. e ≡ shared) }
+    ensures wrong { IfErr result (λ e. e ≡ Fault.Memory) }
+{
+    match shared.try_unwrap() {
+        Ok(expr) => Ok(expr),
+        Err(shared) => copy(shared.as_ref()),
+    }
+}
+
+/// An equal expression, which shares the operands.
+fn copy(expr: &Expr) -> Result<Expr, Fault>
+    ensures same { IfOk result (λ e. e ≡ expr.now) }
+    ensures wrong { IfErr result (λ e. e ≡ Fault.Memory) }
+{
+    Ok(match expr {
+        Expr::Number(number) => Expr::Number(*number),
+        Expr::Named(name) => Expr::Named(name.copy()?),
+        Expr::At(name, index) => Expr::At(name.copy()?, index.clone()?),
+        Expr::Negate(operand) => Expr::Negate(operand.clone()?),
+        Expr::Binary(op, left, right) => Expr::Binary(*op, left.clone()?, right.clone()?),
+    })
+}
+
+fn binary(
+    alloc: Global,
+    op: Op,
+    left: Shared<Expr>,
+    right: Shared<Expr>,
+) -> Result<Shared<Expr>, Fault>
     ensures built { IfOk result (λ e. e ≡ Expr.Binary op left right) }
     ensures wrong { IfErr result (λ e. e ≡ Fault.Memory) }
 {
-    let left = Boxed::new(alloc, left)?;
-    Ok(Expr::Binary(op, left, Boxed::new(alloc, right)?))
+    Ok(Shared::new(alloc, Expr::Binary(op, left, right))?)
 }
 
-fn negate(alloc: Global, operand: Expr) -> Result<Expr, Fault>
+fn negate(alloc: Global, operand: Shared<Expr>) -> Result<Shared<Expr>, Fault>
     ensures built { IfOk result (λ e. e ≡ Expr.Negate operand) }
     ensures wrong { IfErr result (λ e. e ≡ Fault.Memory) }
 {
-    Ok(Expr::Negate(Boxed::new(alloc, operand)?))
+    Ok(Shared::new(alloc, Expr::Negate(operand))?)
 }
 
-fn element(alloc: Global, name: Name, index: Expr) -> Result<Expr, Fault>
+fn element(alloc: Global, name: Name, index: Shared<Expr>) -> Result<Shared<Expr>, Fault>
     ensures built { IfOk result (λ e. e ≡ Expr.At name index) }
     ensures wrong { IfErr result (λ e. e ≡ Fault.Memory) }
 {
-    Ok(Expr::At(name, Boxed::new(alloc, index)?))
+    Ok(Shared::new(alloc, Expr::At(name, index))?)
 }

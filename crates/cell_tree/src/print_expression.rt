@@ -18,17 +18,17 @@ pub fn write_expression(out: &mut Vec<u8>, gap: &[u8], expr: &Expr) -> Result<()
         Expr::Named(name) => write_word(out, gap, name.bytes()),
         Expr::At(name, index) => {
             write_word(out, gap, name.bytes())?;
-            write_index(out, index.get())
+            write_index(out, index.as_ref())
         }
         Expr::Negate(operand) => {
             write_word(out, gap, b"-")?;
-            write_operand(out, b"", operand.get(), Level::Unary.right())
+            write_operand(out, b"", operand.as_ref(), Level::Unary.right())
         }
         Expr::Binary(op, left, right) => {
             let level = Level::of(*op);
-            write_operand(out, gap, left.get(), level.left())?;
+            write_operand(out, gap, left.as_ref(), level.left())?;
             write_word(out, b" ", op_text(*op))?;
-            write_operand(out, b" ", right.get(), level.right())
+            write_operand(out, b" ", right.as_ref(), level.right())
         }
     }
 }

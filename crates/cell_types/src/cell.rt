@@ -6,17 +6,17 @@ ghost use Rattle.cell_types.specs.Typed.{plain_cell};
 
 use crate::depth::{block_loops, block_stack};
 use crate::error::StaticError;
+use crate::leaves::Leaves;
 use crate::program::Cell;
 use crate::scope::Scope;
 use crate::statements::resolve_block;
 use crate::table::MessageTable;
 use crate::variables::Variables;
 use cell_tree::CellDecl;
-use std::alloc::Global;
 
 /// The program of the cell with this index, by its declaration, or the first fault inside it.
 pub(crate) fn resolve_cell(
-    alloc: Global,
+    leaves: &Leaves,
     messages: &MessageTable,
     index: u16,
     cell: CellDecl,
@@ -27,10 +27,10 @@ pub(crate) fn resolve_cell(
         (inner_code (named_in messages.now) index cell) result }
 {
     let CellDecl { vars, body, .. } = cell;
-    let variables = Variables::new(alloc, messages, vars.as_slice())?;
+    let variables = Variables::new(leaves.alloc, messages, vars.as_slice())?;
     let words = variables.words;
-    let mut scope = Scope::new(alloc, index, messages, variables);
-    let body = resolve_block(alloc, &mut scope, body)?;
+    let mut scope = Scope::new(leaves.alloc, index, messages, variables);
+    let body = resolve_block(leaves, &mut scope, body)?;
     Ok(Cell {
         words,
         counters: block_loops(&body),

@@ -15,6 +15,7 @@ ghost use Rattle.cell_types.specs.declared.error.StaticError.TheVariants as E;
 
 use crate::cell::resolve_cell;
 use crate::error::{StaticError, What};
+use crate::leaves::Leaves;
 use crate::program::Cell;
 use crate::table::MessageTable;
 use cell_tree::CellDecl;
@@ -37,9 +38,10 @@ pub(crate) fn resolve_cells(
     let count = usize::from(grid.cells());
     let mut marks = vec![in alloc; false; count]?;
     let mut cells = empty_cells(alloc, count)?;
+    let leaves = Leaves::new(alloc)?;
     for cell in declared.into_vec() {
         let index = declare_cell(grid, &mut marks, &cell)?;
-        cells[usize::from(index)] = resolve_cell(alloc, messages, index, cell)?;
+        cells[usize::from(index)] = resolve_cell(&leaves, messages, index, cell)?;
     }
     Ok(Items::from_vec(cells))
 }

@@ -1,7 +1,8 @@
+use std::rc::Rc;
 use sys_base::Op;
 
 /// An expression whose names are resolved (`docs/language.md`, "Names and what they mean"; `specs/Code.antt`,
-/// `Expression`).
+/// `Expression`). Equal leaves may share their memory.
 ///
 /// The ranges are those of an expression in a `Program` (`specs/Sound.antt`, `SoundExpression`).
 #[derive(Debug, Drop)]
@@ -17,10 +18,10 @@ pub enum TypedExpr {
     At {
         base: u16,
         len: u16,
-        index: Box<TypedExpr>,
+        index: Rc<TypedExpr>,
     },
     /// A unary minus with its operand.
-    Negate(Box<TypedExpr>),
+    Negate(Rc<TypedExpr>),
     /// A binary operator with its left and its right operand.
-    Binary(Op, Box<TypedExpr>, Box<TypedExpr>),
+    Binary(Op, Rc<TypedExpr>, Rc<TypedExpr>),
 }

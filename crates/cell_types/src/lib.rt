@@ -8,6 +8,7 @@ mod error;
 mod expression;
 mod expressions;
 mod laws;
+mod leaves;
 mod links;
 mod messages;
 mod names;

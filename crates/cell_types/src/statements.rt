@@ -9,16 +9,16 @@ ghost use Rattle.cell_types.specs.Written as W;
 
 use crate::error::StaticError;
 use crate::expressions::resolve_expression;
+use crate::leaves::Leaves;
 use crate::scope::Scope;
 use crate::statement::{TypedAct, TypedStmt};
 use cell_tree::{Act, Expr, Stmt};
-use std::alloc::Global;
 use sys_base::{Items, Name};
 
 /// The statements, their names resolved.
 #[cycle(statement)]
 pub(crate) fn resolve_block(
-    alloc: Global,
+    leaves: &Leaves,
     scope: &mut Scope,
     body: Items<Stmt>,
 ) -> Result<Vec<TypedStmt>, StaticError>
@@ -27,10 +27,10 @@ pub(crate) fn resolve_block(
         (resolved_block (scope_in scope.old) (written_block body)) result }
     ensures scope { OnOk result (scope_in scope.new ≡ scope_in scope.old) }
 {
-    let mut typed = Vec::with_capacity(alloc, body.len())?;
+    let mut typed = Vec::with_capacity(leaves.alloc, body.len())?;
     for statement in body.into_vec() {
         let Stmt { line, act } = statement;
-        let act = resolve_act(alloc, scope, line, act)?;
+        let act = resolve_act(leaves, scope, line, act)?;
         typed.push(TypedStmt { line, act })?;
     }
     Ok(typed)
@@ -39,7 +39,7 @@ pub(crate) fn resolve_block(
 /// What a statement on this line does, its names resolved.
 #[cycle(statement)]
 fn resolve_act(
-    alloc: Global,
+    leaves: &Leaves,
     scope: &mut Scope,
     line: u32,
     act: Act,
@@ -50,19 +50,19 @@ fn resolve_act(
     ensures scope { OnOk result (scope_in scope.new ≡ scope_in scope.old) }
 {
     match act {
-        Act::Set { name, value } => set(alloc, scope, line, &name, value),
-        Act::SetAt { name, index, value } => set_at(alloc, scope, line, &name, index, value),
-        Act::Write { message, value } => write(alloc, scope, line, &message, value),
+        Act::Set { name, value } => set(leaves, scope, line, &name, &value),
+        Act::SetAt { name, index, value } => set_at(leaves, scope, line, &name, &index, &value),
+        Act::Write { message, value } => write(leaves, scope, line, &message, &value),
         Act::Read { message, name } => read(scope, line, &message, &name),
         Act::Take { name } => take(scope, line, &name),
-        Act::Emit { value } => emit(alloc, scope, line, value),
+        Act::Emit { value } => emit(leaves, scope, line, &value),
         Act::For {
             counter,
             turns,
             body,
         } => {
             let counter = scope.enter(line, counter, turns)?;
-            let body = resolve_block(alloc, scope, body)?;
+            let body = resolve_block(leaves, scope, body)?;
             scope.leave();
             Ok(TypedAct::For {
                 counter,
@@ -71,9 +71,9 @@ fn resolve_act(
             })
         }
         Act::If { test, yes, no } => {
-            let test = resolve_expression(alloc, scope, line, test)?;
-            let yes = resolve_block(alloc, scope, yes)?;
-            let no = resolve_block(alloc, scope, no)?;
+            let test = resolve_expression(leaves, scope, line, &test)?;
+            let yes = resolve_block(leaves, scope, yes)?;
+            let no = resolve_block(leaves, scope, no)?;
             Ok(TypedAct::If { test, yes, no })
         }
     }
@@ -81,35 +81,35 @@ fn resolve_act(
 
 /// An assignment to a variable.
 fn set(
-    alloc: Global,
+    leaves: &Leaves,
     scope: &Scope,
     line: u32,
     name: &Name,
-    value: Expr,
+    value: &Expr,
 ) -> Result<TypedAct, StaticError>
-    ensures { Resolves (action_faults (scope_in scope.now) line (W.Set name.now (written_expression value))) action_of
-        (resolved_action (scope_in scope.now) (W.Set name.now (written_expression value))) result }
+    ensures { Resolves (action_faults (scope_in scope.now) line (W.Set name.now (written_expression value.now))) action_of
+        (resolved_action (scope_in scope.now) (W.Set name.now (written_expression value.now))) result }
 {
     let word = scope.variable(line, name)?;
-    let value = resolve_expression(alloc, scope, line, value)?;
+    let value = resolve_expression(leaves, scope, line, value)?;
     Ok(TypedAct::Set { word, value })
 }
 
 /// An assignment to an element of an array.
 fn set_at(
-    alloc: Global,
+    leaves: &Leaves,
     scope: &Scope,
     line: u32,
     name: &Name,
-    index: Expr,
-    value: Expr,
+    index: &Expr,
+    value: &Expr,
 ) -> Result<TypedAct, StaticError>
-    ensures { Resolves (action_faults (scope_in scope.now) line (W.SetAt name.now (written_expression index) (written_expression value))) action_of
-        (resolved_action (scope_in scope.now) (W.SetAt name.now (written_expression index) (written_expression value))) result }
+    ensures { Resolves (action_faults (scope_in scope.now) line (W.SetAt name.now (written_expression index.now) (written_expression value.now))) action_of
+        (resolved_action (scope_in scope.now) (W.SetAt name.now (written_expression index.now) (written_expression value.now))) result }
 {
     let (base, len) = scope.array(line, name)?;
-    let index = resolve_expression(alloc, scope, line, index)?;
-    let value = resolve_expression(alloc, scope, line, value)?;
+    let index = resolve_expression(leaves, scope, line, index)?;
+    let value = resolve_expression(leaves, scope, line, value)?;
     Ok(TypedAct::SetAt {
         base,
         len,
@@ -120,17 +120,17 @@ fn set_at(
 
 /// A `write`.
 fn write(
-    alloc: Global,
+    leaves: &Leaves,
     scope: &Scope,
     line: u32,
     message: &Name,
-    value: Expr,
+    value: &Expr,
 ) -> Result<TypedAct, StaticError>
-    ensures { Resolves (action_faults (scope_in scope.now) line (W.Write message.now (written_expression value))) action_of
-        (resolved_action (scope_in scope.now) (W.Write message.now (written_expression value))) result }
+    ensures { Resolves (action_faults (scope_in scope.now) line (W.Write message.now (written_expression value.now))) action_of
+        (resolved_action (scope_in scope.now) (W.Write message.now (written_expression value.now))) result }
 {
     let message = scope.message(line, true, message)?;
-    let value = resolve_expression(alloc, scope, line, value)?;
+    let value = resolve_expression(leaves, scope, line, value)?;
     Ok(TypedAct::Write { message, value })
 }
 
@@ -154,10 +154,10 @@ fn take(scope: &Scope, line: u32, name: &Name) -> Result<TypedAct, StaticError>
 }
 
 /// An `emit`.
-fn emit(alloc: Global, scope: &Scope, line: u32, value: Expr) -> Result<TypedAct, StaticError>
-    ensures { Resolves (action_faults (scope_in scope.now) line (W.Emit (written_expression value))) action_of
-        (resolved_action (scope_in scope.now) (W.Emit (written_expression value))) result }
+fn emit(leaves: &Leaves, scope: &Scope, line: u32, value: &Expr) -> Result<TypedAct, StaticError>
+    ensures { Resolves (action_faults (scope_in scope.now) line (W.Emit (written_expression value.now))) action_of
+        (resolved_action (scope_in scope.now) (W.Emit (written_expression value.now))) result }
 {
-    let value = resolve_expression(alloc, scope, line, value)?;
+    let value = resolve_expression(leaves, scope, line, value)?;
     Ok(TypedAct::Emit { value })
 }
