@@ -2,12 +2,11 @@
 use Rattle.std.proofs.Common.{ℕ, ◌≡◌, ◌+◌, ◌<◌, ◌≤◌, false, List, [], ◌∷◌, Option, None, Some, inl, inr, is_none, is_some, length, map, sum_by, slice_get, refl, sym, ap, subst, ◌∙◌, arith}
 use Rattle.std.specs.Prelude.{not, find, option_map, slice_index_or, if◌then◌else◌}
 use Rattle.cell_types.specs.Code.{ProgramCode}
-use Rattle.cell_types.specs.Cost.{cells_cost}
+use Rattle.cell_types.specs.Cost.{IsLimited, cells_cost}
 use Rattle.cell_types.specs.Groups.{bound, forwards, lengths_of}
 use Rattle.cell_types.specs.declared.program.Message.{Message}
 use Rattle.comm_sequence.specs.Differing.{all_differing, IsFirst}
 use Rattle.comm_sequence.specs.Labels.{IsConsistent}
-use Rattle.comm_sequence.specs.Limit.{IsLimited}
 use Rattle.comm_sequence.specs.Sequences.{sequences_of, message_of}
 use Rattle.comm_sequence.specs.declared.error.CommError.{CommError}
 use Rattle.comm_sequence.specs.declared.error.CommError.TheVariants as C

@@ -1,5 +1,6 @@
 pub mod Behind
 pub mod CellLoop
+pub mod CostSteps
 pub mod DepthsAgree
 pub mod Examples
 pub mod FaultExamples
@@ -10,6 +11,7 @@ pub mod LinkSteps
 pub mod MessageLoop
 pub mod MessageSteps
 pub mod Near
+pub mod Needs
 pub mod NoFaults
 pub mod Paths
 pub mod Places

@@ -17,7 +17,7 @@ use Rattle.cell_types.specs.Written.{WrittenSource, written}
 use Rattle.cell_types.specs.declared.error.StaticError.{StaticError}
 use Rattle.cell_types.specs.declared.error.StaticError.TheVariants as E
 use Rattle.cell_types.specs.declared.program.Message.{Message}
-use Rattle.cell_types.specs.declared.program.Cell.{Cell}
+use Rattle.cell_types.specs.declared.cell_program.Cell.{Cell}
 use Rattle.cell_types.proofs.FirstFaults.{none_joined, when_passes}
 
 module _ (source : Source) (printable : IsPrintable source) where

@@ -15,4 +15,5 @@ pub mod Sound
 pub mod Statics
 pub mod Tables
 pub mod Typed
+pub mod TypedBlocks
 pub mod Written

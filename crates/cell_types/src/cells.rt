@@ -14,9 +14,9 @@ ghost use Rattle.cell_types.specs.Written.{WrittenCell, written};
 ghost use Rattle.cell_types.specs.declared.error.StaticError.TheVariants as E;
 
 use crate::cell::resolve_cell;
+use crate::cell_program::Cell;
 use crate::error::{StaticError, What};
 use crate::leaves::Leaves;
-use crate::program::Cell;
 use crate::table::MessageTable;
 use cell_tree::CellDecl;
 use std::alloc::Global;
@@ -58,6 +58,7 @@ fn empty_cells(alloc: Global, count: usize) -> Result<Vec<Cell>, StaticError>
             counters: 0,
             stack: 0,
             body: Vec::new(alloc),
+            cost: Some(0),
         })?;
     }
     Ok(cells)

@@ -22,7 +22,7 @@ fn expression_stack(expr: &TypedExpr) -> u16
 
 /// The deepest stack that some of these statements needs.
 #[cycle(stack)]
-pub(crate) fn block_stack(body: &[TypedStmt]) -> u16
+fn block_stack(body: &[TypedStmt]) -> u16
     requires { block_stack (block_of body.now) ≤ 256 }
     ensures { result ≡ block_stack (block_of body.now) }
 {
@@ -35,7 +35,7 @@ pub(crate) fn block_stack(body: &[TypedStmt]) -> u16
 
 /// The deepest stack that a statement needs.
 #[cycle(stack)]
-fn action_stack(act: &TypedAct) -> u16
+pub(crate) fn action_stack(act: &TypedAct) -> u16
     requires { action_stack (action_of act.now) ≤ 256 }
     ensures { result ≡ action_stack (action_of act.now) }
 {
@@ -56,7 +56,7 @@ fn action_stack(act: &TypedAct) -> u16
 
 /// How many loops of these statements stand inside one another at most.
 #[cycle(loops)]
-pub(crate) fn block_loops(body: &[TypedStmt]) -> u8
+fn block_loops(body: &[TypedStmt]) -> u8
     requires { block_loops (block_of body.now) ≤ 16 }
     ensures { result ≡ block_loops (block_of body.now) }
 {
@@ -69,7 +69,7 @@ pub(crate) fn block_loops(body: &[TypedStmt]) -> u8
 
 /// How many loops of a statement stand inside one another at most.
 #[cycle(loops)]
-fn action_loops(act: &TypedAct) -> u8
+pub(crate) fn action_loops(act: &TypedAct) -> u8
     requires { action_loops (action_of act.now) ≤ 16 }
     ensures { result ≡ action_loops (action_of act.now) }
 {

@@ -2,7 +2,9 @@
 #![tactic(auto)]
 
 mod cell;
+mod cell_program;
 mod cells;
+mod costs;
 mod depth;
 mod error;
 mod expression;
@@ -20,9 +22,10 @@ mod statements;
 mod table;
 mod variables;
 
+pub use cell_program::Cell;
 pub use error::{Found, RouteFault, StaticError, What};
 pub use expression::TypedExpr;
 pub use laws::routes_agree;
-pub use program::{Cell, Message, Program};
+pub use program::{Message, Program};
 pub use resolving::resolve;
 pub use statement::{TypedAct, TypedStmt};

@@ -2,7 +2,7 @@ ghost use Rattle.std.specs.Prelude.{◌≡◌};
 ghost use Rattle.cell_types.specs.Sound.{IsSound};
 ghost use Rattle.cell_types.specs.Typed.{plain};
 
-use crate::statement::TypedStmt;
+use crate::cell_program::Cell;
 use std::marker::Model;
 use sys_base::{Grid, Items, Name};
 
@@ -24,22 +24,6 @@ pub struct Message {
     pub label: Option<u16>,
 }
 
-/// The program of one cell (`docs/language.md`, "Names and what they mean"). A cell that the source does not declare
-/// has no words and no statements.
-///
-/// The ranges are those of a cell of a `Program` (`specs/Sound.antt`, `IsSoundCell`).
-#[derive(Debug, Drop)]
-pub struct Cell {
-    /// The number of words of its variables and arrays, 0 to 1,024.
-    pub words: u16,
-    /// The most loops inside one another, 0 to 16.
-    pub counters: u8,
-    /// The deepest stack that a statement of it needs, in values, 0 to 256 (`specs/Depth.antt`, `block_stack`).
-    pub stack: u16,
-    /// Its statements, in order.
-    pub body: Vec<TypedStmt>,
-}
-
 /// A source whose names are resolved and which has no static fault (`docs/language.md`, "Names and what they mean";
 /// `specs/Sound.antt`). It comes from `resolve` alone.
 #[derive(Debug, Drop)]
@@ -54,7 +38,7 @@ pub struct Program {
 impl Model for Program {
     ghost use Rattle.cell_types.specs.Typed.{Contents, plain};
     ghost use Rattle.cell_types.specs.Sound.{IsSound};
-    ghost use Rattle.cell_types.specs.contracts.program.Cell as cell;
+    ghost use Rattle.cell_types.specs.contracts.cell_program.Cell as cell;
     ghost use Rattle.std.specs.Coded.{codes};
 
     ghost Value = { Contents };

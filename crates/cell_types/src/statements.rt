@@ -38,7 +38,7 @@ pub(crate) fn resolve_block(
 
 /// What a statement on this line does, its names resolved.
 #[cycle(statement)]
-fn resolve_act(
+pub(crate) fn resolve_act(
     leaves: &Leaves,
     scope: &mut Scope,
     line: u32,

@@ -1,7 +1,6 @@
 pub mod AlikeWhere
 pub mod Below
 pub mod Cells
-pub mod CostSteps
 pub mod Counted
 pub mod Entries
 pub mod Examples

@@ -2,6 +2,5 @@ pub mod BufferedOrder
 pub mod CrossingOrder
 pub mod Differing
 pub mod Labels
-pub mod Limit
 pub mod Sequences
 pub mod Unrolling

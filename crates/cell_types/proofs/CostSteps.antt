@@ -9,18 +9,18 @@ use Rattle.cell_types.specs.Code.{CellCode}
 use Rattle.cell_types.specs.Cost.{expression_cost, action_cost, block_cost}
 use Rattle.cell_types.specs.Typed.{action_of, block_of, expression_of, plain_cell}
 use Rattle.cell_types.specs.declared.expression.TypedExpr.{TypedExpr}
-use Rattle.cell_types.specs.declared.program.Cell.{Cell}
+use Rattle.cell_types.specs.declared.cell_program.Cell.{Cell}
 use Rattle.cell_types.specs.declared.statement.TypedAct.{TypedAct}
 use Rattle.cell_types.specs.declared.statement.TypedAct.TheVariants as T
 use Rattle.cell_types.specs.declared.statement.TypedStmt.{TypedStmt}
-use Rattle.comm_sequence.proofs.Plain.{for_is, if_is}
+use Rattle.cell_types.proofs.TypedSteps.{action_of_for, action_of_if}
 
 -- the cost of a loop, by the items of its body
 pub loop_is : (act : TypedAct) (counter turns : ℕ) (body : Vec TypedStmt) (items : List TypedStmt)
     → act ≡ T.For counter turns body → items ≡ body.items
     → action_cost (action_of act) ≡ 1 + turns * (block_cost (block_of items) + 1)
 loop_is act counter turns body items is same =
-    ap (λ a. action_cost (action_of a)) is ∙ ap action_cost (for_is counter turns body)
+    ap (λ a. action_cost (action_of a)) is ∙ ap action_cost (action_of_for counter turns body)
     ∙ ap (λ xs. 1 + turns * (block_cost (block_of xs) + 1)) (sym same)
 
 -- the cost of an `if`, by the items of its arms
@@ -29,7 +29,7 @@ pub branch_is : (act : TypedAct) (test : TypedExpr) (first second : Vec TypedStm
     → action_cost (action_of act)
     ≡ expression_cost (expression_of test) + 1 + max (block_cost (block_of yes_items) + 1) (block_cost (block_of no_items))
 branch_is act test first second yes_items no_items is same other =
-    ap (λ a. action_cost (action_of a)) is ∙ ap action_cost (if_is test first second)
+    ap (λ a. action_cost (action_of a)) is ∙ ap action_cost (action_of_if test first second)
     ∙ ap (λ xs. expression_cost (expression_of test) + 1 + max (block_cost (block_of xs) + 1) (block_cost (block_of second.items)))
     (sym same)
     ∙ ap (λ xs. expression_cost (expression_of test) + 1 + max (block_cost (block_of yes_items) + 1) (block_cost (block_of xs)))

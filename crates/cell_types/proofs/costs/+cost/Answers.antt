@@ -1,9 +1,8 @@
 use Rattle.std.proofs.Common.{ℕ, ◌+◌, ◌*◌, ◌∙◌, ap, subst, sym, refl, arith}
-use Rattle.cell_types.specs.Cost.{action_cost, block_cost}
+use Rattle.cell_types.specs.Cost.{IsLimited, action_cost, block_cost}
 use Rattle.cell_types.specs.Typed.{action_of, block_of}
-use Rattle.comm_sequence.specs.Limit.{IsLimited}
-use Rattle.comm_sequence.proofs.CostSteps.{loop_is, branch_is, loop_over}
-use Rattle.comm_sequence.proofs.costs.+cost.Goals as goal
+use Rattle.cell_types.proofs.CostSteps.{loop_is, branch_is, loop_over}
+use Rattle.cell_types.proofs.costs.+cost.Goals as goal
 
 pub act_cost-returns-in_err-statements_cost-in-For : goal.act_cost-returns-in_err-statements_cost-in-For
 act_cost-returns-in_err-statements_cost-in-For t c =

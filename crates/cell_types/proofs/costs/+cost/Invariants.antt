@@ -1,7 +1,7 @@
 use Rattle.std.proofs.Common.{◌+◌, ◌≤◌, ◌≡◌, drop}
 use Rattle.cell_types.specs.Cost.{block_cost}
 use Rattle.cell_types.specs.Typed.{block_of}
-use Rattle.comm_sequence.proofs.costs.+cost.Given as goal
+use Rattle.cell_types.proofs.costs.+cost.Given as goal
 
 abbrev pub invariant-statements_cost-loop-statement : goal.invariant-statements_cost-loop-statement
 invariant-statements_cost-loop-statement l =

@@ -1,6 +1,6 @@
 use Rattle.std.proofs.Common.{◌+◌, ◌≤◌, ◌≡◌, drop}
-use Rattle.comm_sequence.proofs.CostSteps.{cost_of_cells}
-use Rattle.comm_sequence.proofs.costs.cost.Given as goal
+use Rattle.cell_types.proofs.CostSteps.{cost_of_cells}
+use Rattle.cell_types.proofs.program.Program.cost.Given as goal
 
 abbrev pub invariant-loop-cell : goal.invariant-loop-cell
 invariant-loop-cell l =
