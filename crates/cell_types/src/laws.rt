@@ -7,8 +7,8 @@ ghost use Rattle.routes.specs.Walks.{IsRoute};
 ghost use Rattle.cell_types.specs.Declarations.{walked_with};
 ghost use Rattle.cell_types.specs.Route.{route_between};
 
-/// A law: the route that a program has for a message is the route between its cells by the directions that are given, as
-/// `routes` defines it, and the fault that a source has there is the first fault of that route.
+/// A law: the route that a program has for a message is exactly the route between its cells by the directions that are given,
+/// as `routes` defines it; and where that has a first fault, a source has this fault there.
 pub fn routes_agree()
     ensures routes { (g : Extent) (from to : ℕ) (given : List Dir) (links : List ℕ)
         → IsRoute g from to given links ↔ (route_between g from to given ≡ Ok links) }

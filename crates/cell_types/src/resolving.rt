@@ -25,7 +25,8 @@ const SIDE: u64 = 16;
 /// "Canonical text" and "Names and what they mean").
 ///
 /// An error is the first fault of the source in file order (`docs/refusals.md`, "Statics, in file order"), or `Memory`,
-/// which may come for any source.
+/// which may come for any source. The cells and links that a fault names stand in rows and columns below 16
+/// (`specs/Near.antt`).
 pub fn resolve(alloc: Global, source: Source) -> Result<Program, StaticError>
     requires printable { IsPrintable source }
     ensures program { IfOk result (λ p. (faults source ≡ []) × (plain p ≡ program_of source)) }

@@ -1,9 +1,9 @@
 use cell_lexer::tokens;
 use cell_parser::{ParseError, parse};
-use cell_tree::{Source, print};
+use cell_tree::{LinkDecl, Place, Source, print};
 use std::alloc::Global;
 use std::test::Fail;
-use sys_base::Items;
+use sys_base::{Dir, Items};
 
 /// Each form of declaration and of statement, in canonical form.
 #[test]
@@ -110,6 +110,12 @@ fn prints_other_text_in_canonical_form(rt: HostRuntime) -> Result<(), Fail> {
 /// No text that can be read has this line yet.
 #[test]
 fn prints_a_buffer(rt: HostRuntime) -> Result<(), Fail> {
+    let link = LinkDecl {
+        place: Place { row: 0, col: 0 },
+        dir: Dir::E,
+        queues: 2,
+        line: 4,
+    };
     let source = Source {
         rows: 1,
         cols: 2,
@@ -118,12 +124,12 @@ fn prints_a_buffer(rt: HostRuntime) -> Result<(), Fail> {
         queues_line: 2,
         buffer: 3,
         buffer_line: 3,
-        links: Items::new(rt.alloc()),
+        links: Items::from_slice(rt.alloc(), &[link])?,
         messages: Items::new(rt.alloc()),
         cells: Items::new(rt.alloc()),
     };
     let text = print(rt.alloc(), &source)?;
-    let wanted = b"array 1 x 2;\nqueues 1;\nbuffer 3;\n";
+    let wanted = b"array 1 x 2;\nqueues 1;\nbuffer 3;\nlink 0.0 E queues 2;\n";
     assert_eq!(rt; text.as_slice(), wanted.as_slice());
     Ok(())
 }
