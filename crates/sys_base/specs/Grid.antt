@@ -2,18 +2,19 @@
 use Rattle.std.specs.Prelude.{ℕ, ◌+◌, ◌-◌, ◌*◌, ◌/◌, ◌%◌, ◌<◌, ◌≤◌, Option, Some, None, nat_lt, if◌then◌else◌}
 use Rattle.sys_base.specs.declared.kinds.Dir.{Dir}
 use Rattle.sys_base.specs.declared.kinds.Dir.TheVariants.{N, E, S, W}
+use Rattle.sys_base.specs.declared.limits.TheConstants.{SIDE}
 
 -- how many rows and columns a grid has
 pub record Extent : Type 0 where
   pub rows : ℕ
   pub cols : ℕ
 
--- Rows and columns are 1 to 16 each.
+-- There are some rows and columns, and not too many of either.
 pub record IsExtent (g : Extent) : Type 0 where
   pub some_rows : 1 ≤ g.rows
-  pub most_rows : g.rows ≤ 16
+  pub most_rows : g.rows ≤ SIDE
   pub some_cols : 1 ≤ g.cols
-  pub most_cols : g.cols ≤ 16
+  pub most_cols : g.cols ≤ SIDE
 
 -- The grid has this row and this column.
 pub record IsInside (g : Extent) (row col : ℕ) : Type 0 where

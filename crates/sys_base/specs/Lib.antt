@@ -1,5 +1,12 @@
+pub mod Actors
 pub mod Bytes
+pub mod Communications
 pub mod formers
 pub mod Grid
+pub mod Groups
+pub mod Held
 pub mod Key
 pub mod Name
+pub mod Paths
+pub mod Words
+pub mod Names

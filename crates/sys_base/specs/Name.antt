@@ -1,6 +1,7 @@
 -- The names of the source language.
 use Rattle.std.specs.Prelude.{ℕ, ◌≡◌, ◌≤◌, List, length, IsTrue, slice_index, EachIndex}
 use Rattle.sys_base.specs.declared.key.Key.{Key}
+use Rattle.sys_base.specs.declared.limits.TheConstants.{NAME_BYTES}
 use Rattle.sys_base.specs.Bytes.{is_letter, is_word_byte}
 use Rattle.sys_base.specs.Key.{key_text}
 
@@ -12,5 +13,5 @@ pub record IsWord (bytes : List ℕ) : Type 0 where
 -- The bytes are a word of at most 32 bytes that is no keyword.
 pub record IsName (bytes : List ℕ) : Type 0 where
   pub word : IsWord bytes
-  pub short : length bytes ≤ 32
+  pub short : length bytes ≤ NAME_BYTES
   pub free : (key : Key) → bytes ≡ key_text key → ⊥

@@ -1,12 +1,10 @@
 ghost use Rattle.std.specs.Prelude.{◌≡◌, ℕ, ◌+◌, ◌*◌, ◌<◌, ◌≤◌, ◌↔◌, IsSome, IfSome};
 ghost use Rattle.std.specs.Option.{SomeIff, option_map};
-ghost use Rattle.sys_base.specs.Grid.{Extent, IsExtent, cell_count, cell_at, IsInside, neighbour_of, link_id};
+ghost use Rattle.sys_base.specs.Grid.{Extent, IsExtent, cell_count, cell_at, row_of, col_of, IsInside, neighbour_of, link_id};
 
 use crate::kinds::Dir;
+use crate::limits::SIDE;
 use std::marker::Model;
-
-/// The most rows, and the most columns, of a grid.
-pub const SIDE: u64 = 16;
 
 /// A rectangular grid of cells, seen as its rows and columns, 1 to 16 each (`docs/model.md`, "The grid").
 #[derive(Clone, Copy, Debug, PartialEq, Eq)]
@@ -72,6 +70,24 @@ impl Grid {
             return None;
         }
         Some(row as u16 * u16::from(self.cols) + col as u16)
+    }
+
+    /// The row of a cell, from 0.
+    pub fn row(&self, cell: u16) -> u8
+        requires { cell < cell_count self.now }
+        ensures row { result ≡ row_of self.now cell }
+        ensures inside { result < self.now.rows }
+    {
+        (cell / u16::from(self.cols)) as u8
+    }
+
+    /// The column of a cell, from 0.
+    pub fn col(&self, cell: u16) -> u8
+        requires { cell < cell_count self.now }
+        ensures col { result ≡ col_of self.now cell }
+        ensures inside { result < self.now.cols }
+    {
+        (cell % u16::from(self.cols)) as u8
     }
 
     /// The cell next to this one in a direction; `None` exactly where there is none.

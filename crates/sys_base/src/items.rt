@@ -1,7 +1,11 @@
-ghost use Rattle.std.specs.Prelude.{◌≡◌, [], ◌∷◌, ◌++◌, length, IfOk, OnOk, OnErr};
+ghost use Rattle.std.specs.Prelude.{◌≡◌, ◌↔◌, [], ◌∷◌, ◌++◌, length, IsTrue, IfOk, OnOk, OnErr};
+ghost use Rattle.std.specs.Iterator.Adapters.{IterYieldsInOrder};
+ghost use Rattle.std.specs.Slice.{IsItemAt};
+ghost use Rattle.std.specs.Slice.Iter.{iter_rest};
 
 use std::alloc::{AllocError, Global};
 use std::marker::Model;
+use std::slice::Iter;
 
 /// A list that contracts see as its elements alone, so that lists with equal elements are equal.
 #[derive(Debug, Drop)]
@@ -57,6 +61,28 @@ impl<T> Items<T> {
         ensures { result ≡ length self.now }
     {
         self.elements.len()
+    }
+
+    /// Whether there is no element.
+    pub fn is_empty(&self) -> bool
+        ensures { IsTrue result ↔ (self.now ≡ []) }
+    {
+        self.elements.is_empty()
+    }
+
+    /// The element at an index; `None` exactly where there is none.
+    pub fn get(&self, index: usize) -> Option<&T>
+        ensures { IsItemAt self.now index result }
+    {
+        self.elements.get(index)
+    }
+
+    /// The elements one after another, lent.
+    pub fn iter(&self) -> Iter<'_, T>
+        ensures rest { iter_rest result ≡ self.now }
+        ensures runs { IterYieldsInOrder T }
+    {
+        self.elements.iter()
     }
 }
 

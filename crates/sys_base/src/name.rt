@@ -1,15 +1,14 @@
-ghost use Rattle.std.specs.Prelude.{◌≡◌, ℕ, ◌↔◌, List, IsTrue, IsSome, IfSome, IfOk};
+ghost use Rattle.std.specs.Prelude.{◌≡◌, ℕ, ◌↔◌, List, Some, IsTrue, IsSome, IfSome, IfOk};
 ghost use Rattle.sys_base.specs.Name.{IsName, IsWord};
 
 use crate::bytes::{is_letter, is_word_byte};
 use crate::key::Key;
+use crate::limits::NAME_BYTES;
 use crate::memory::Memory;
 use std::alloc::Global;
 use std::marker::Model;
 use std::rc::Rc;
-
-/// The most bytes that a name has.
-pub const NAME_BYTES: usize = 32;
+use std::{fmt, str};
 
 /// A name of the cell language, seen as its bytes: a letter or `_`, then letters, digits and `_`, at most 32 in all, and no
 /// keyword (`docs/language.md`, "Names and keywords"). Its copies share the memory of its bytes, so that a name that stands many
@@ -72,5 +71,14 @@ fn is_word(bytes: &[u8]) -> bool
     match bytes {
         [] => false,
         [first, ..] => is_letter(*first) && bytes.iter().all(|b| is_word_byte(*b)),
+    }
+}
+
+impl fmt::Display for Name {
+    ghost output = { λ name. Some name };
+
+    fn fmt<W: fmt::Write>(&self, f: &mut fmt::Formatter<W>) -> fmt::Result {
+        let text = str::from_utf8(self.bytes()).map_err(|_| fmt::Error)?;
+        f.write_str(text)
     }
 }
