@@ -1,4 +1,4 @@
-ghost use Rattle.std.specs.Prelude.{◌≡◌, ◌≢◌, ℕ, ◌^◌, ◌<◌, ◌≤◌, List, [], Option, None, IsErrOf};
+ghost use Rattle.std.specs.Prelude.{◌≡◌, ◌≢◌, ℕ, ◌^◌, ◌<◌, ◌≤◌, List, [], Option, None, IsErrOf, vec_capacity};
 ghost use Rattle.sys_outside.specs.Fault.{Rose, one_more_fault};
 ghost use Rattle.sys_outside.specs.Shelf.{Fetches, faults_after_fetch};
 
@@ -12,7 +12,7 @@ use std::rt::Files;
 const CHUNK: usize = 4096;
 
 /// The file system, through the runtime that it borrows. It tells no bytes. One count is that of every name, and rises
-/// at each error.
+/// at each error of the system.
 #[derive(Drop)]
 pub struct FileShelf<'a, R: Files> {
     rt: &'a R,
@@ -47,6 +47,9 @@ impl<'a, R: Files> Shelf for FileShelf<'a, R> {
         ensures later { (n : List ℕ) → self.old ≤ self.new }
         ensures failed { IsErrOf result ShelfError.Failed → Rose self.old self.new }
         ensures counts { self.new ≡ faults_after_fetch self.old result }
+
+        // Memory is wanted only where `into` came without room for `limit + 1` bytes: no error of the system is answered so.
+        ensures memory { IsErrOf result ShelfError.Memory → vec_capacity into.old ≤ limit }
     {
         into.clear();
         let fetched = match File::open(self.rt, name) {
@@ -68,7 +71,8 @@ fn read_within<F: Read>(
 ) -> Result<Fetched, ShelfError>
     requires limit { limit < 2 ^ 32 }
     requires empty { into.old.items ≡ [] }
-    ensures { Fetches (F.remaining file.old) limit into.new.items result }
+    ensures bytes { Fetches (F.remaining file.old) limit into.new.items result }
+    ensures memory { IsErrOf result ShelfError.Memory → vec_capacity into.old ≤ limit }
 {
     let mut chunk = [0u8; CHUNK];
     // Each turn takes a byte at least, or is the last.

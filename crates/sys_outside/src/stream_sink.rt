@@ -1,5 +1,4 @@
-ghost use Rattle.std.specs.Prelude.{◌≡◌, ℕ, ◌≤◌, List, Option, None, IsErrOf, IsTrue, OnOk};
-ghost use Rattle.std.specs.Io.KnownBytes.{Appends};
+ghost use Rattle.std.specs.Prelude.{◌≡◌, ◌≢◌, ℕ, ◌≤◌, List, Option, None, Err, IsErrOf};
 ghost use Rattle.sys_outside.specs.Fault.{Rose};
 ghost use Rattle.sys_outside.specs.Sink.{Puts, faults_after_put};
 
@@ -8,7 +7,7 @@ use std::io::Write;
 use std::marker::Model;
 
 /// Standard output, standard error or another writer. It tells no bytes. Its count rises at each error, and where a
-/// write takes nothing.
+/// write takes nothing: each fails the put, which writes no more, and no put wants memory.
 #[derive(Drop)]
 pub struct StreamSink<W: Write + Drop> {
     inner: W,
@@ -42,19 +41,23 @@ impl<W: Write + Drop> Sink for StreamSink<W> {
         ensures later { self.old.1 ≤ self.new.1 }
         ensures failed { IsErrOf result SinkError.Failed → Rose self.old.1 self.new.1 }
         ensures counts { self.new.1 ≡ faults_after_put self.old.1 result }
-        ensures writes { OnOk result (Appends (W.contents self.old.0) (W.contents self.new.0) bytes.now) }
+        ensures memory { result ≢ Err SinkError.Memory }
+
+        // The writer has all of the bytes, or the first of them where the put failed.
+        ensures writes { Puts (W.contents self.old.0) (W.contents self.new.0) bytes.now result }
     {
-        if write_whole(&mut self.inner, bytes) {
-            return Ok(());
+        let written = write_whole(&mut self.inner, bytes);
+        if written.is_err() {
+            self.faults = self.faults.saturating_add(1);
         }
-        self.faults = self.faults.saturating_add(1);
-        Err(SinkError::Failed)
+        written
     }
 }
 
-// Writes all of the bytes, and says whether no write failed or took nothing.
-fn write_whole<W: Write>(writer: &mut W, bytes: &[u8]) -> bool
-    ensures { IsTrue result → Appends (W.contents writer.old) (W.contents writer.new) bytes.now }
+// Writes all of the bytes. It stops at the first write that fails or takes nothing, and flushes after the last one.
+fn write_whole<W: Write>(writer: &mut W, bytes: &[u8]) -> Result<(), SinkError>
+    ensures memory { result ≢ Err SinkError.Memory }
+    ensures writes { Puts (W.contents writer.old) (W.contents writer.new) bytes.now result }
 {
     let mut rest = bytes;
     // Each turn takes a byte at least, or is the last.
@@ -63,9 +66,13 @@ fn write_whole<W: Write>(writer: &mut W, bytes: &[u8]) -> bool
             break;
         }
         match writer.write(rest) {
-            Ok(0) | Err(_) => return false,
+            Ok(0) => return Err(SinkError::Failed),
             Ok(count) => rest = &rest[count..],
+            Err(_) => return Err(SinkError::Failed),
         }
     }
-    writer.flush().is_ok()
+    match writer.flush() {
+        Ok(()) => Ok(()),
+        Err(_) => Err(SinkError::Failed),
+    }
 }
