@@ -1,4 +1,5 @@
 pub mod ByteKinds
+pub mod FewTokens
 pub mod Fronts
 pub mod GapSteps
 pub mod LongestForm
@@ -8,6 +9,7 @@ pub mod OneOutcome
 pub mod Outcomes
 pub mod Prolonging
 pub mod ReadBack
+pub mod SomeOutcome
 pub mod Spellings
 pub mod Standing
 pub mod TextLines

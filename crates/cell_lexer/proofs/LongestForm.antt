@@ -4,7 +4,7 @@ use Rattle.std.proofs.lemmas.Bool.{both_ways, cases_lt}
 use Rattle.sys_base.specs.Bytes.{is_letter, is_digit, is_word_byte}
 use Rattle.sys_base.specs.Name.{IsWord}
 use Rattle.cell_lexer.specs.declared.token.Mark.{Mark}
-use Rattle.cell_lexer.specs.Scanning.{IsSolid}
+use Rattle.cell_lexer.specs.Inner.Scanning.{IsSolid}
 use Rattle.cell_lexer.specs.Faults.{IsBad}
 use Rattle.cell_lexer.specs.Forms.{mark_text, IsDigits, Form, word, digits, mark, Longest}
 use Rattle.cell_lexer.proofs.ByteKinds.{letter_no_digit, digit_no_newline, word_byte_no_newline}

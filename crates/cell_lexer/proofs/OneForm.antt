@@ -10,7 +10,7 @@ use Rattle.cell_lexer.specs.declared.token.Sort.{Sort}
 use Rattle.cell_lexer.specs.declared.token.Sort.TheVariants as S
 use Rattle.cell_lexer.specs.Forms.{mark_text, IsDigits, value, greatest, Form, word, digits, mark, Longest, Says}
 use Rattle.cell_lexer.specs.Faults.{IsBad, IsBig, IsLong}
-use Rattle.cell_lexer.specs.Scanning.{IsSolid}
+use Rattle.cell_lexer.specs.Inner.Scanning.{IsSolid}
 use Rattle.cell_lexer.proofs.ByteKinds.{letter_no_digit, letter_no_space, digit_no_space, letter_no_hash, digit_no_hash}
 use Rattle.cell_lexer.proofs.Spellings.{IsSign, mark_signs, mark_some, one_mark, key_word, key_short, one_key}
 

@@ -2,7 +2,7 @@
 use Rattle.std.proofs.Common.{ℕ, ◌≡◌, List, [], ◌∷◌, sym, refl, subst}
 use Rattle.std.proofs.lemmas.Bool.{both_ways}
 use Rattle.cell_lexer.specs.Gaps.{Comment, at_end, at_line, inside, Gap, none, space, comment}
-use Rattle.cell_lexer.specs.Scanning.{IsSolid}
+use Rattle.cell_lexer.specs.Inner.Scanning.{IsSolid}
 use Rattle.cell_lexer.proofs.ByteKinds.{hash_no_space}
 
 one_comment : (us vs ws : List ℕ) → Comment us vs → Comment us ws → vs ≡ ws

@@ -7,7 +7,7 @@ use Rattle.cell_lexer.specs.Forms.{Longest, Says, IsDigits}
 use Rattle.cell_lexer.specs.Places.{line_at, column_at}
 use Rattle.cell_lexer.specs.Tokens.{IsToken, Stand, TokensOf}
 use Rattle.cell_lexer.specs.Faults.{IsBig, IsLong, FaultAt, FirstFault}
-use Rattle.cell_lexer.specs.Scanning.{IsSolid}
+use Rattle.cell_lexer.specs.Inner.Scanning.{IsSolid}
 use Rattle.cell_lexer.proofs.OneForm.{Front, front_of, one_longest, one_sort, word_no_digits, IsDumb, bad_is_dumb, big_is_dumb, long_is_dumb}
 use Rattle.cell_lexer.proofs.OneGap.{Ends, one_gap}
 

@@ -6,7 +6,7 @@ use Rattle.cell_lexer.specs.declared.error.LexError.{LexError}
 use Rattle.cell_lexer.specs.declared.error.LexError.TheVariants as E
 use Rattle.cell_lexer.specs.declared.token.Token.{Token}
 use Rattle.cell_lexer.specs.Faults.{FirstFault}
-use Rattle.cell_lexer.specs.Scanning.{IsFirst}
+use Rattle.cell_lexer.specs.Inner.Scanning.{IsFirst}
 use Rattle.cell_lexer.specs.Tokens.{IsToken, TokensOf}
 use Rattle.cell_lexer.proofs.OneOutcome.{one_tokens, one_first_fault, tokens_no_fault}
 use Rattle.cell_lexer.proofs.Standing.{stand_each, token_some, token_inside}

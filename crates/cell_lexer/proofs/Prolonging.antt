@@ -1,4 +1,4 @@
--- A word that nothing behind it makes longer is the longest token at its place.
+-- A word that nothing after it makes longer is the longest token at its place.
 use Rattle.std.proofs.Common.{ℕ, ◌≡◌, ◌+◌, ◌<◌, ◌==◌, ◌||◌, ◌++◌, Bool, true, false, List, [], ◌∷◌, length, get_or, take, sym, refl, ap, ◌∙◌, subst, arith, add-zero, length-append, length-take-le, get_or-take}
 use Rattle.std.proofs.lemmas.Bool.{both_ways, false≢true}
 use Rattle.std.proofs.lemmas.List.{take_at, get_or-append-add, get_or_append_left}
@@ -57,7 +57,7 @@ single_prolonged M.Star e b = absurd (false≢true b)
 single_prolonged M.Slash e b = absurd (false≢true b)
 single_prolonged M.Percent e b = absurd (false≢true b)
 
--- the byte behind a word
+-- the byte after a word
 next_byte : (word us : List ℕ) → get_or (word ++ us) (length word) 0 ≡ get_or us 0 0
 next_byte word us = ap (λ n. get_or (word ++ us) n 0) (sym (add-zero (length word))) ∙ get_or-append-add word us 0 0
 

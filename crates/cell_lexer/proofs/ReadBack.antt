@@ -32,7 +32,7 @@ blank_end : (bs : List ℕ) → Blank bs → Gap bs []
 blank_end [] h = none
 blank_end (b ∷ bs) h = space h.0 (blank_end bs h.1)
 
--- the rest of a text behind its first bytes
+-- the rest of a text after its first bytes
 rest_behind : (text front rest : List ℕ) (at : ℕ) → drop at text ≡ front ++ rest → drop (at + length front) text ≡ rest
 rest_behind text front rest at e = sym (drop-drop (length front) at text) ∙ ap (drop (length front)) e ∙ drop_at front rest (length front) refl
 

@@ -70,13 +70,13 @@ pub mark_short : (m : Mark) → length (mark_text m) ≤ 2
 mark_short m = leb-true _ _ (and_parts _ _ (and_parts _ _ (mark_test m)).1).1
 
 -- the two first bytes in one number
-abbrev front_number : List ℕ → ℕ
+abbrev pub front_number : List ℕ → ℕ
 front_number bs = 256 * get_or bs 0 0 + get_or bs 1 0
 
-abbrev mark_from : ℕ → Mark
+abbrev pub mark_from : ℕ → Mark
 mark_from n = if n == 31488 then M.OpenBrace else (if n == 32000 then M.CloseBrace else (if n == 23296 then M.OpenBracket else (if n == 23808 then M.CloseBracket else (if n == 10240 then M.OpenParen else (if n == 10496 then M.CloseParen else (if n == 15104 then M.Semicolon else (if n == 11776 then M.Dot else (if n == 15616 then M.Assign else (if n == 15677 then M.Same else (if n == 8509 then M.Differ else (if n == 15360 then M.Less else (if n == 15421 then M.AtMost else (if n == 11008 then M.Plus else (if n == 11520 then M.Minus else (if n == 10752 then M.Star else (if n == 12032 then M.Slash else M.Percent))))))))))))))))
 
-mark_back : (m : Mark) → mark_from (front_number (mark_text m)) ≡ m
+pub mark_back : (m : Mark) → mark_from (front_number (mark_text m)) ≡ m
 mark_back M.OpenBrace = refl
 mark_back M.CloseBrace = refl
 mark_back M.OpenBracket = refl
@@ -131,10 +131,10 @@ key_word k =
 pub key_short : (k : Key) → length (key_text k) ≤ 32
 key_short k = leb-true _ _ (and_parts _ _ (and_parts _ _ (key_test k)).1).1
 
-abbrev key_from : ℕ → Key
+abbrev pub key_from : ℕ → Key
 key_from n = if n == 24946 then K.Array else (if n == 29045 then K.Queues else (if n == 27753 then K.Link else (if n == 28005 then K.Message else (if n == 26226 then K.From else (if n == 29807 then K.To else (if n == 29295 then K.Route else (if n == 27745 then K.Label else (if n == 25445 then K.Cell else (if n == 30305 then K.Var else (if n == 30578 then K.Write else (if n == 29285 then K.Read else (if n == 29793 then K.Take else (if n == 25965 then K.Emit else (if n == 26223 then K.For else (if n == 26982 then K.If else (if n == 25964 then K.Else else K.Buffer))))))))))))))))
 
-key_back : (k : Key) → key_from (front_number (key_text k)) ≡ k
+pub key_back : (k : Key) → key_from (front_number (key_text k)) ≡ k
 key_back K.Array = refl
 key_back K.Queues = refl
 key_back K.Link = refl

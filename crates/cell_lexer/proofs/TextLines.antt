@@ -8,7 +8,7 @@ use Rattle.cell_lexer.specs.Places.{line_at, before_newline, column_at}
 use Rattle.cell_lexer.proofs.LongestForm.{form_no_newline}
 use Rattle.cell_lexer.proofs.OneForm.{form_some}
 
--- two places are on one line, so many bytes apart
+-- two places are on one line, this many bytes apart
 pub record SameLine (text : List ℕ) (at next n : ℕ) : Type 0 where
   pub line : line_at text next ≡ line_at text at
   pub column : column_at text next ≡ column_at text at + n

@@ -2,6 +2,7 @@
 use Rattle.std.specs.Prelude.{ℕ, ◌≡◌, ◌<◌, List, length, take, drop, false, slice_index}
 use Rattle.sys_base.specs.Bytes.{is_space}
 use Rattle.sys_base.specs.Name.{IsWord}
+use Rattle.sys_base.specs.declared.limits.TheConstants.{NAME_BYTES}
 use Rattle.cell_lexer.specs.declared.error.LexError.{LexError}
 use Rattle.cell_lexer.specs.declared.error.LexError.TheVariants as E
 use Rattle.cell_lexer.specs.declared.token.Token.{Token}
@@ -21,11 +22,11 @@ pub record IsBig (bytes : List ℕ) (len : ℕ) : Type 0 where
   pub digits : IsDigits (take len bytes)
   pub big : greatest < value (take len bytes)
 
--- The longest token here is a word of more than 32 bytes.
+-- The longest token here is a word of more bytes than a name has.
 pub record IsLong (bytes : List ℕ) (len : ℕ) : Type 0 where
   pub longest : Longest bytes len
   pub word : IsWord (take len bytes)
-  pub long : 32 < len
+  pub long : NAME_BYTES < len
 
 -- This is what is wrong at a place of the text.
 abbrev pub FaultAt : List ℕ → ℕ → LexError → Type 0

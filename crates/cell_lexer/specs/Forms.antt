@@ -3,6 +3,7 @@ use Rattle.std.specs.Prelude.{ℕ, ◌≡◌, ◌+◌, ◌-◌, ◌*◌, ◌<◌
 use Rattle.sys_base.specs.Bytes.{is_digit}
 use Rattle.sys_base.specs.Key.{key_text}
 use Rattle.sys_base.specs.Name.{IsWord, IsName}
+use Rattle.cell_lexer.specs.declared.limits.TheConstants.{GREATEST_NUMBER}
 use Rattle.cell_lexer.specs.declared.token.Mark.{Mark}
 use Rattle.cell_lexer.specs.declared.token.Mark.TheVariants as M
 use Rattle.cell_lexer.specs.declared.token.Sort.{Sort}
@@ -45,7 +46,7 @@ value bytes = value_after 0 bytes
 
 -- the greatest number of the language
 abbrev pub greatest : ℕ
-greatest = 9223372036854775807
+greatest = GREATEST_NUMBER
 
 -- The bytes have the form of a token: a word, digits or a mark.
 pub data Form : List ℕ → Type 0 where
@@ -53,7 +54,7 @@ pub data Form : List ℕ → Type 0 where
   digits : {bytes : List ℕ} → IsDigits bytes → Form bytes
   mark : {bytes : List ℕ} (m : Mark) → bytes ≡ mark_text m → Form bytes
 
--- The first so many of these bytes have the form of a token, and no longer front of them has.
+-- The first bytes, as many as this number, have the form of a token, and no longer front of the bytes has.
 pub record Longest (bytes : List ℕ) (len : ℕ) : Type 0 where
   pub inside : len ≤ length bytes
   pub form : Form (take len bytes)

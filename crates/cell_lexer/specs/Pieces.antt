@@ -15,18 +15,18 @@ pub record Piece : Type 0 where
   pub word : List ℕ
   pub sort : Sort
 
--- the text of the pieces and of what stands behind them
+-- the text of the pieces and of what stands after them
 abbrev pub text_of : List Piece → List ℕ → List ℕ
 text_of [] last = last
 text_of (p ∷ ps) last = p.gap ++ (p.word ++ text_of ps last)
 
--- whether a byte behind a mark makes another mark of it
+-- whether a byte after a mark makes another mark of it
 abbrev pub prolongs_mark : Mark → ℕ → Bool
 prolongs_mark M.Assign b = b == 61
 prolongs_mark M.Less b = b == 61
 prolongs_mark _ b = false
 
--- whether a byte behind a word may make the word longer
+-- whether a byte after a word may make the word longer
 abbrev pub prolongs : Sort → ℕ → Bool
 prolongs S.Name b = is_word_byte b
 prolongs (S.Number n) b = is_digit b
@@ -43,7 +43,7 @@ abbrev pub Blank : List ℕ → Type 0
 Blank [] = Unit {0}
 Blank (b ∷ bytes) = IsTrue (is_space b) × Blank bytes
 
--- Each gap is blank, each word says its sort, and nothing behind a word makes it longer.
+-- Each gap is blank, each word says its sort, and nothing after a word makes it longer.
 abbrev pub Legible : List Piece → List ℕ → Type 0
 Legible [] last = Blank last
 Legible (p ∷ ps) last = Blank p.gap × Says p.word p.sort × Separate p.sort (text_of ps last) × Legible ps last
@@ -52,7 +52,7 @@ Legible (p ∷ ps) last = Blank p.gap × Says p.word p.sort × Separate p.sort (
 abbrev pub token_of : List ℕ → ℕ → Piece → Token
 token_of text at p = record { sort = p.sort; at = at; len = length p.word; line = line_at text at; column = column_at text at }
 
--- the tokens of pieces, the first of which begins with its gap at a place of the text
+-- the tokens of pieces, where the first piece begins with its gap at a place of the text
 abbrev pub placed : List ℕ → ℕ → List Piece → List Token
 placed text from [] = []
 placed text from (p ∷ ps) = token_of text (from + length p.gap) p ∷ placed text (from + length p.gap + length p.word) ps
@@ -69,7 +69,7 @@ words_of text ts = map (λ (t : Token). record { sort = t.sort; bytes = take t.l
 abbrev pub words_in : List Piece → List Word
 words_in ps = map (λ (p : Piece). record { sort = p.sort; bytes = p.word }) ps
 
--- the lines of the words of pieces, the first of which begins with its gap on a line
+-- the lines of the words of pieces, where the first piece begins with its gap on a line
 abbrev pub lines_from : ℕ → List Piece → List ℕ
 lines_from line [] = []
 lines_from line (p ∷ ps) = (line + count_by (λ b. b == 10) p.gap) ∷ lines_from (line + count_by (λ b. b == 10) p.gap) ps

@@ -12,7 +12,7 @@ pub record IsToken (text : List ℕ) (t : Token) : Type 0 where
   pub line : t.line ≡ line_at text t.at
   pub column : t.column ≡ column_at text t.at
 
--- Between two places of the text stand just these tokens, with gaps before, between and behind them.
+-- Between two places of the text stand just these tokens, with gaps before, between and after them.
 abbrev pub Stand : List ℕ → ℕ → List Token → ℕ → Type 0
 Stand text from [] to = Gap (drop from text) (drop to text)
 Stand text from (t ∷ ts) to = Gap (drop from text) (drop t.at text) × IsToken text t × Stand text (t.at + t.len) ts to

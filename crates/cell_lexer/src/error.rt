@@ -11,10 +11,10 @@ pub enum LexError {
     #[error("byte at {at} is not part of the language")]
     BadByte { at: u32 },
     /// A number above 9223372036854775807.
-    #[error("line {line}: the number is more than 9223372036854775807")]
+    #[error("line {line}: the number is too great")]
     BigNumber { line: u32 },
     /// A name of more than 32 bytes.
-    #[error("line {line}: the name has more than 32 bytes")]
+    #[error("line {line}: the name is too long")]
     LongName { line: u32 },
     /// Memory ran out, which may happen to any text.
     #[error("out of memory")]

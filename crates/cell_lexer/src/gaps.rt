@@ -1,13 +1,14 @@
 ghost use Rattle.std.specs.Prelude.{◌<◌, ◌≤◌, length, drop, slice_index, IfSome, IfNone};
+ghost use Rattle.sys_base.specs.declared.limits.TheConstants.{SOURCE_BYTES};
 ghost use Rattle.cell_lexer.specs.Gaps.{Comment, Gap};
-ghost use Rattle.cell_lexer.specs.Scanning.{IsPlace, IsSolid};
+ghost use Rattle.cell_lexer.specs.Inner.Scanning.{IsPlace, IsSolid};
 
 use crate::place::{Place, step};
 use sys_base::bytes::is_space;
 
 /// Where the gap that begins here ends, which may be here.
 pub(crate) fn gap_end(text: &[u8], start: Place) -> Place
-    requires short { length text.now ≤ 1048576 }
+    requires short { length text.now ≤ SOURCE_BYTES }
     requires place { IsPlace text.now start }
     ensures place { IsPlace text.now result }
     ensures gap { Gap (drop start.at text.now) (drop result.at text.now) }
@@ -21,9 +22,9 @@ pub(crate) fn gap_end(text: &[u8], start: Place) -> Place
     place
 }
 
-/// The place behind the separator or the comment that begins here; `None` where neither does.
+/// The place after the separator or the comment that begins here; `None` where neither does.
 fn gap_step(text: &[u8], place: Place) -> Option<Place>
-    requires short { length text.now ≤ 1048576 }
+    requires short { length text.now ≤ SOURCE_BYTES }
     requires place { IsPlace text.now place }
     ensures place { IfSome result (λ next. IsPlace text.now next) }
     ensures gap { IfSome result (λ next. Gap (drop place.at text.now) (drop next.at text.now)) }
@@ -42,7 +43,7 @@ fn gap_step(text: &[u8], place: Place) -> Option<Place>
 
 /// Where a comment whose `#` stands before this place ends: before the next newline or at the end of the text.
 fn comment_end(text: &[u8], start: Place) -> Place
-    requires short { length text.now ≤ 1048576 }
+    requires short { length text.now ≤ SOURCE_BYTES }
     requires place { IsPlace text.now start }
     ensures place { IsPlace text.now result }
     ensures comment { Comment (drop start.at text.now) (drop result.at text.now) }

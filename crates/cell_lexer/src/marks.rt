@@ -2,10 +2,38 @@ ghost use Rattle.std.specs.Prelude.{◌≡◌, ◌<◌, [], ◌∷◌, false, le
 ghost use Rattle.sys_base.specs.Bytes.{is_letter, is_digit};
 ghost use Rattle.cell_lexer.specs.declared.token.Mark.{Mark};
 ghost use Rattle.cell_lexer.specs.Forms.{Longest, Says, mark_text};
-ghost use Rattle.cell_lexer.specs.Scanning.{IsFlaw, IsSolid};
+ghost use Rattle.cell_lexer.specs.Inner.Scanning.{IsFlaw, IsSolid};
 
 use crate::flaw::Flaw;
 use crate::token::{Mark, Sort};
+
+impl Mark {
+    /// How the mark is spelt.
+    pub fn text(self) -> &'static [u8]
+        ensures { result.now ≡ mark_text self }
+    {
+        match self {
+            Mark::OpenBrace => b"{",
+            Mark::CloseBrace => b"}",
+            Mark::OpenBracket => b"[",
+            Mark::CloseBracket => b"]",
+            Mark::OpenParen => b"(",
+            Mark::CloseParen => b")",
+            Mark::Semicolon => b";",
+            Mark::Dot => b".",
+            Mark::Assign => b"=",
+            Mark::Same => b"==",
+            Mark::Differ => b"!=",
+            Mark::Less => b"<",
+            Mark::AtMost => b"<=",
+            Mark::Plus => b"+",
+            Mark::Minus => b"-",
+            Mark::Star => b"*",
+            Mark::Slash => b"/",
+            Mark::Percent => b"%",
+        }
+    }
+}
 
 /// The mark at the front of bytes that begin neither a word nor a number nor a gap, and its length.
 pub(crate) fn mark_at(rest: &[u8]) -> Result<(Sort, usize), Flaw>

@@ -1,14 +1,12 @@
 ghost use Rattle.std.specs.Prelude.{◌≡◌, ℕ, ◌<◌, ◌≤◌, false, length, take, IsTrue, slice_index, EachIndex, IfSome, IfNone, IfOk, IfErr};
 ghost use Rattle.sys_base.specs.Bytes.{is_digit};
 ghost use Rattle.cell_lexer.specs.Forms.{Longest, Says, value, greatest};
-ghost use Rattle.cell_lexer.specs.Scanning.{IsFlaw};
+ghost use Rattle.cell_lexer.specs.Inner.Scanning.{IsFlaw};
 
 use crate::flaw::Flaw;
+use crate::limits::GREATEST_NUMBER;
 use crate::token::Sort;
 use sys_base::bytes::is_digit;
-
-/// The greatest number of the language, the greatest `i64`.
-const GREATEST: u64 = 9223372036854775807;
 
 /// The number at the front of bytes that begin with a digit, and its length.
 pub(crate) fn number_at(rest: &[u8]) -> Result<(Sort, usize), Flaw>
@@ -47,7 +45,7 @@ fn number(digits: &[u8]) -> Option<u64>
     let mut n = 0;
     for byte in digits {
         let digit = u64::from(*byte - b'0');
-        if n > (GREATEST - digit) / 10 {
+        if n > (GREATEST_NUMBER - digit) / 10 {
             return None;
         }
         n = 10 * n + digit;

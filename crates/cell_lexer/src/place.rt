@@ -1,7 +1,8 @@
 ghost use Rattle.std.specs.Prelude.{◌≡◌, ◌+◌, ◌-◌, ◌^◌, ◌<◌, ◌≤◌, length, drop};
+ghost use Rattle.sys_base.specs.declared.limits.TheConstants.{SOURCE_BYTES};
 ghost use Rattle.cell_lexer.specs.Forms.{Longest};
 ghost use Rattle.cell_lexer.specs.Places.{line_at, column_at};
-ghost use Rattle.cell_lexer.specs.Scanning.{IsPlace};
+ghost use Rattle.cell_lexer.specs.Inner.Scanning.{IsPlace};
 
 /// A line and a column of a text, both from 1; a column is a number of bytes.
 #[derive(Clone, Copy, Debug, PartialEq, Eq)]
@@ -65,9 +66,9 @@ pub(crate) fn step(text: &[u8], place: Place) -> Place
     }
 }
 
-/// The place behind a token of so many bytes.
-pub(crate) fn behind(text: &[u8], place: Place, len: u32) -> Place
-    requires short { length text.now ≤ 1048576 }
+/// The place after a token of this many bytes.
+pub(crate) fn past(text: &[u8], place: Place, len: u32) -> Place
+    requires short { length text.now ≤ SOURCE_BYTES }
     requires place { IsPlace text.now place }
     requires token { Longest (drop place.at text.now) len }
     ensures place { IsPlace text.now result }

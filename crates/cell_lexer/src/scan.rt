@@ -1,9 +1,10 @@
 ghost use Rattle.std.specs.Prelude.{◌≡◌, ◌+◌, ◌<◌, ◌≤◌, ◌⊎◌, List, length, take, slice_index, All, IfOk, IfErr, MatchResult};
+ghost use Rattle.sys_base.specs.declared.limits.TheConstants.{SOURCE_BYTES};
 ghost use Rattle.cell_lexer.specs.declared.error.LexError.{LexError};
 ghost use Rattle.cell_lexer.specs.declared.token.Token.{Token};
 ghost use Rattle.cell_lexer.specs.Faults.{FaultAt, FirstFault};
 ghost use Rattle.cell_lexer.specs.Forms.{Longest, Says};
-ghost use Rattle.cell_lexer.specs.Scanning.{IsFirst, IsFlaw, IsPlace, IsSolid};
+ghost use Rattle.cell_lexer.specs.Inner.Scanning.{IsFirst, IsFlaw, IsPlace, IsSolid};
 ghost use Rattle.cell_lexer.specs.Tokens.{IsToken, TokensOf};
 
 use crate::error::LexError;
@@ -11,7 +12,7 @@ use crate::flaw::Flaw;
 use crate::gaps::gap_end;
 use crate::marks::mark_at;
 use crate::numbers::number_at;
-use crate::place::{Place, START, behind};
+use crate::place::{Place, START, past};
 use crate::token::{Sort, Token};
 use crate::words::name_at;
 use std::alloc::Global;
@@ -21,7 +22,7 @@ use sys_base::bytes::{is_digit, is_letter};
 ///
 /// An error is the first thing that is wrong in the text, or `Memory`, which may come for any text. The time is linear.
 pub fn tokens(alloc: Global, text: &[u8]) -> Result<Vec<Token>, LexError>
-    requires { length text.now ≤ 1048576 }
+    requires { length text.now ≤ SOURCE_BYTES }
 
     // What is answered is right.
     ensures tokens { IfOk result (λ v. TokensOf text.now v.items) }
@@ -40,7 +41,7 @@ pub fn tokens(alloc: Global, text: &[u8]) -> Result<Vec<Token>, LexError>
 }
 
 fn scan(alloc: Global, text: &[u8]) -> Result<Vec<Token>, LexError>
-    requires { length text.now ≤ 1048576 }
+    requires { length text.now ≤ SOURCE_BYTES }
     ensures tokens { IfOk result (λ v. TokensOf text.now v.items) }
     ensures fault { IfErr result (λ e. IsFirst text.now e) }
 {
@@ -49,14 +50,14 @@ fn scan(alloc: Global, text: &[u8]) -> Result<Vec<Token>, LexError>
     'each: while (place.at as usize) < text.len() {
         let token = token_at(text, place)?;
         all.push(token)?;
-        place = gap_end(text, behind(text, place, token.len));
+        place = gap_end(text, past(text, place, token.len));
     }
     Ok(all)
 }
 
 /// The token at a place that no gap goes on from.
 fn token_at(text: &[u8], place: Place) -> Result<Token, LexError>
-    requires short { length text.now ≤ 1048576 }
+    requires short { length text.now ≤ SOURCE_BYTES }
     requires inside { place.at < length text.now }
     requires place { IsPlace text.now place }
     requires solid { IsSolid (slice_index text.now place.at) }

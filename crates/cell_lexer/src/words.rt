@@ -1,7 +1,7 @@
 ghost use Rattle.std.specs.Prelude.{◌≡◌, ℕ, ◌<◌, ◌≤◌, false, length, take, IsTrue, slice_index, IfOk, IfErr};
 ghost use Rattle.sys_base.specs.Bytes.{is_letter, is_word_byte};
 ghost use Rattle.cell_lexer.specs.Forms.{Longest, Says};
-ghost use Rattle.cell_lexer.specs.Scanning.{IsFlaw};
+ghost use Rattle.cell_lexer.specs.Inner.Scanning.{IsFlaw};
 
 use crate::flaw::Flaw;
 use crate::token::Sort;

@@ -1,6 +1,6 @@
 use Rattle.std.proofs.Common.{ℕ, ◌-◌, ◌≤◌, List, length, drop}
 use Rattle.cell_lexer.specs.Gaps.{Gap}
-use Rattle.cell_lexer.specs.Scanning.{IsPlace}
+use Rattle.cell_lexer.specs.Inner.Scanning.{IsPlace}
 use Rattle.cell_lexer.proofs.gaps.gap_end.Given as goal
 
 -- whatever goes on as a gap here goes on so from the start

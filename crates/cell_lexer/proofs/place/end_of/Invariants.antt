@@ -1,5 +1,5 @@
 use Rattle.std.proofs.Common.{◌-◌, length}
-use Rattle.cell_lexer.specs.Scanning.{IsPlace}
+use Rattle.cell_lexer.specs.Inner.Scanning.{IsPlace}
 use Rattle.cell_lexer.proofs.place.end_of.Given as goal
 
 abbrev pub invariant-bytes : goal.invariant-bytes

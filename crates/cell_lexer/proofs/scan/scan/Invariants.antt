@@ -1,5 +1,5 @@
 use Rattle.std.proofs.Common.{◌-◌, ◌<◌, length, get_or}
-use Rattle.cell_lexer.specs.Scanning.{IsPlace, IsSolid}
+use Rattle.cell_lexer.specs.Inner.Scanning.{IsPlace, IsSolid}
 use Rattle.cell_lexer.specs.Tokens.{Stand}
 use Rattle.cell_lexer.proofs.scan.scan.Given as goal
 

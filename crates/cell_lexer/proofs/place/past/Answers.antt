@@ -1,6 +1,6 @@
 use Rattle.std.proofs.Common.{◌+◌, ap, ◌∙◌, sym, arith}
 use Rattle.cell_lexer.proofs.TextLines.{token_line, token_within}
-use Rattle.cell_lexer.proofs.place.behind.Goals as goal
+use Rattle.cell_lexer.proofs.place.past.Goals as goal
 
 pub returns-clause-place : goal.returns-clause-place
 returns-clause-place c =

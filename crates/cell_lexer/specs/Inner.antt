@@ -1,0 +1,3 @@
+-- Words that only proofs and functions of the crate itself need: what a reader has to believe stands outside this
+-- folder.
+pub mod Scanning
