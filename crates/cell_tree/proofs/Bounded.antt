@@ -7,15 +7,15 @@ use Rattle.cell_tree.specs.Pieces.{Piece, words_of, after, none}
 use Rattle.cell_tree.specs.Printable.{is_opening, is_closing, runs_fit, open_after, braces_fit}
 use Rattle.cell_tree.proofs.PlainWords.{IsPlain, no_opening, no_closing, AllPlain, plain_none, plain_next, Stretch}
 
--- The runs of the pieces' words fit, where the present run has so many words already.
+-- The runs of the pieces' words fit, where the present run has this many words already.
 abbrev pub Runs : ℕ → List Piece → Type 0
 Runs run pieces = IsTrue (runs_fit run (words_of pieces))
 
--- The braces of the pieces' words fit, where so many are open before.
+-- The braces of the pieces' words fit, where this many are open before.
 abbrev pub Braces : ℕ → List Piece → Type 0
 Braces count pieces = IsTrue (braces_fit count (words_of pieces))
 
--- Behind plain pieces the run is longer by as many, and they fit in it.
+-- After plain pieces the run is longer by as many, and they fit in it.
 record Behind (run : ℕ) (pieces rest : List Piece) : Type 0 where
   fits : Runs (run + length pieces) rest
   short : run + length pieces ≤ 256
@@ -42,7 +42,7 @@ plain_runs run rest (plain_next {gap} {word} {pieces} w p) le h =
     let short = behind.short in
     record { fits = subst (λ (n : ℕ). Runs n rest) (omega arith) behind.fits; short = omega (arith, short) }
 
--- the braces behind a word
+-- the braces after a word
 brace_step : (word : List ℕ) (count : ℕ) (words : List (List ℕ)) → IsTrue (braces_fit count (word ∷ words))
     → IsTrue (braces_fit (open_after count word) words)
 brace_step word count words h = (and_parts (nat_lt count 17 || not (is_opening word)) (braces_fit (open_after count word) words) h).1

@@ -3,6 +3,7 @@ pub mod Bounded
 pub mod DepthExamples
 pub mod DepthSteps
 pub mod Joined
+pub mod NodesExamples
 pub mod PlainWords
 pub mod PrintableExamples
 pub mod ShallowExpressions

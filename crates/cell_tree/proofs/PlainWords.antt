@@ -125,7 +125,7 @@ pub all_join : {xs ys : List Piece} → AllPlain xs → AllPlain ys → AllPlain
 all_join plain_none q = q
 all_join (plain_next w p) q = plain_next w (all_join p q)
 
--- plain pieces, of which nothing is counted
+-- plain pieces, where nothing is counted
 pub stretch_plain : {pieces : List Piece} → AllPlain pieces → Stretch 0 pieces
 stretch_plain p = record { plain = p; count = omega arith }
 

@@ -1,5 +1,5 @@
 -- The cells of a printable source are shallow.
-use Rattle.std.proofs.Common.{ℕ, ◌+◌, ◌≤◌, ◌++◌, ◌==◌, true, false, List, [], ◌∷◌, map, Option, Some, None, refl, arith}
+use Rattle.std.proofs.Common.{ℕ, ◌+◌, ◌≤◌, ◌++◌, ◌==◌, true, false, List, [], ◌∷◌, length, map, Option, Some, None, refl, subst, arith, append_assoc}
 use Rattle.std.specs.List.{All, AllByRecursion, flat_map}
 use Rattle.std.specs.Prelude.{if◌then◌else◌, codes}
 use Rattle.std.proofs.lemmas.List.Elements.{recursion_from_All, All-from_recursion}
@@ -20,7 +20,7 @@ use Rattle.cell_tree.specs.declared.source.Source.{Source}
 use Rattle.cell_tree.specs.declared.source.VarDecl.{VarDecl}
 use Rattle.cell_tree.specs.declared.statement.Stmt.{Stmt}
 use Rattle.cell_tree.proofs.Bounded.{Runs, Braces, Bounded, bounded_none, bounded_join, bounded_less, bounded_line, bounded_block}
-use Rattle.cell_tree.proofs.PlainWords.{IsPlain, AllPlain, plain_none, plain_next, all_join, Stretch, stretch_plain, name_plain, decimal_plain, dir_plain}
+use Rattle.cell_tree.proofs.PlainWords.{IsPlain, AllPlain, plain_none, plain_next, all_join, Stretch, stretch_plain, stretch_one, stretch_join, stretch_less, name_plain, decimal_plain, dir_plain}
 use Rattle.cell_tree.proofs.ShallowExpressions.{Names, names_front, names_back}
 use Rattle.cell_tree.proofs.ShallowStatements.{statement_bounded}
 
@@ -32,7 +32,7 @@ one p = plain_next p plain_none
 place_plain : (place : Place) → AllPlain (place_pieces place)
 place_plain place = plain_next (decimal_plain place.row) (plain_next (record { ends = refl }) (one (decimal_plain place.col)))
 
--- plain pieces and a semicolon, of which nothing is counted
+-- plain pieces and a semicolon, where nothing is counted
 simple : {pieces : List Piece} → AllPlain pieces → Bounded 0 0 (pieces ++ after none (codes ";"))
 simple p = bounded_line (stretch_plain p)
 
@@ -57,14 +57,6 @@ link_bounded l =
     simple (plain_next (record { ends = refl }) (all_join (place_plain l.place)
     (plain_next (dir_plain l.dir) (plain_next (record { ends = refl }) (one (decimal_plain l.queues))))))
 
-dirs_plain : (dirs : List Dir) → AllPlain (flat_map (λ dir. after space (dir_text dir)) dirs)
-dirs_plain [] = plain_none
-dirs_plain (dir ∷ dirs) = plain_next (dir_plain dir) (dirs_plain dirs)
-
-route_plain : (dirs : List Dir) → AllPlain (route_pieces dirs)
-route_plain [] = plain_none
-route_plain (dir ∷ dirs) = plain_next (record { ends = refl }) (dirs_plain (dir ∷ dirs))
-
 label_plain : (label : Option ℕ) → AllPlain (label_pieces label)
 label_plain None = plain_none
 label_plain (Some n) = plain_next (record { ends = refl }) (one (decimal_plain n))
@@ -73,10 +65,22 @@ ends_plain : (m : MessageDecl) → AllPlain (ends_pieces m)
 ends_plain m =
     plain_next (record { ends = refl }) (all_join (place_plain m.from) (plain_next (record { ends = refl }) (place_plain m.to)))
 
-message_bounded : (m : MessageDecl) → IsName m.name → Bounded 0 0 (message_pieces m)
+dirs_stretch : (dirs : List Dir) → Stretch (length dirs) (flat_map (λ dir. after space (dir_text dir)) dirs)
+dirs_stretch [] = stretch_plain plain_none
+dirs_stretch (dir ∷ dirs) = stretch_less (omega arith) (stretch_join (stretch_one {gap = space} (dir_plain dir)) (dirs_stretch dirs))
+
+-- a route has as many plain pieces as directions at least
+route_stretch : (dirs : List Dir) → Stretch (length dirs) (route_pieces dirs)
+route_stretch [] = stretch_plain plain_none
+route_stretch (dir ∷ dirs) =
+    stretch_less (omega arith)
+    (stretch_join (stretch_one {gap = space} {word = key_text K.Route} (record { ends = refl })) (dirs_stretch (dir ∷ dirs)))
+
+message_bounded : (m : MessageDecl) → IsName m.name → Bounded (length m.route) 0 (message_pieces m)
 message_bounded m n =
-    simple (all_join (all_join (plain_next (record { ends = refl }) (plain_next (name_plain m.name n) (ends_plain m))) (route_plain m.route))
-    (label_plain m.label))
+    let front = stretch_plain (plain_next (record { ends = refl }) (plain_next (name_plain m.name n) (ends_plain m))) in
+    bounded_line (stretch_less (omega arith)
+    (stretch_join (stretch_join front (route_stretch m.route)) (stretch_plain (label_plain m.label))))
 
 length_plain : (size : Option ℕ) → AllPlain (length_pieces size)
 length_plain None = plain_none
@@ -92,7 +96,8 @@ links_bounded (l ∷ ls) = bounded_join (link_bounded l) (links_bounded ls)
 
 messages_bounded : (ms : List MessageDecl) → Names (map (λ (m : MessageDecl). m.name) ms) → Bounded 0 0 (flat_map message_pieces ms)
 messages_bounded [] ns = bounded_none
-messages_bounded (m ∷ ms) ns = bounded_join (message_bounded m ns.0) (messages_bounded ms ns.1)
+messages_bounded (m ∷ ms) ns =
+    bounded_less (omega arith) (omega arith) (bounded_join (message_bounded m ns.0) (messages_bounded ms ns.1))
 
 vars_bounded : (vs : List VarDecl) → Names (map (λ (v : VarDecl). v.name) vs) → Bounded 0 0 (flat_map var_pieces vs)
 vars_bounded [] ns = bounded_none
@@ -153,3 +158,31 @@ cells_stack s p k d lt = (All-from_recursion IsShallow s.cells (shallow s p) k d
 
 pub cells_loops : (s : Source) → IsPrintable s → All (λ c. cell_loops c ≤ 16) s.cells
 cells_loops s p k d lt = (All-from_recursion IsShallow s.cells (shallow s p) k d lt).1
+
+-- The messages' routes are short where the runs of their lines fit.
+abbrev IsShort : MessageDecl → Type 0
+IsShort m = length m.route ≤ 256
+
+messages_short : (ms : List MessageDecl) (rest : List Piece) → Names (map (λ (m : MessageDecl). m.name) ms)
+    → Runs 0 (flat_map message_pieces ms ++ rest) → AllByRecursion IsShort ms
+messages_short [] rest ns h = tt
+messages_short (m ∷ ms) rest ns h =
+    let more : List Piece = flat_map message_pieces ms in
+    let first = (message_bounded m ns.0).runs (more ++ rest)
+    (subst (λ (zs : List Piece). Runs 0 zs) (append_assoc (message_pieces m) more rest) h) in
+    (first.0, messages_short ms rest ns.1 first.1)
+
+-- each route of a printable source is short
+pub routes_short : (s : Source) → IsPrintable s → All (λ m. length m.route ≤ 256) s.messages
+routes_short s p =
+    let names : List (List ℕ) = map (λ (m : MessageDecl). m.name) s.messages in
+    let ns : Names (source_names s) = recursion_from_All IsName (source_names s) p.names in
+    let messages : List Piece = flat_map message_pieces s.messages in
+    let cells : List Piece = flat_map cell_pieces s.cells in
+    let front : List Piece =
+    array_pieces s ++ setting_pieces (key_text K.Queues) s.queues ++ buffer_pieces s.buffer ++ flat_map link_pieces s.links in
+    let head = bounded_join (bounded_join (bounded_join (array_bounded s)
+    (setting_bounded (key_text K.Queues) s.queues (record { ends = refl }))) (buffer_bounded s.buffer)) (links_bounded s.links) in
+    let runs = head.runs (messages ++ cells) (subst (λ (zs : List Piece). Runs 0 zs) (append_assoc front messages cells) p.runs) in
+    All-from_recursion IsShort s.messages
+    (messages_short s.messages cells (names_front names (flat_map cell_names s.cells) ns) runs.1)

@@ -87,7 +87,7 @@ close_act x h =
 word : (gap text : List ℕ) → IsPlain text → Stretch 1 (after gap text)
 word gap text p = stretch_one {gap = gap} {word = text} p
 
--- a statement on one line: so many words at least before its semicolon
+-- a statement on one line: this many words at least before its semicolon
 set_bounded : (n : List ℕ) (e : Expr) → Bounds (stack_depth e) 0 (n ∷ names_of e) (act_step (Act-F.Set n e))
 set_bounded n e ns depth =
     bounded_line (stretch_less {n = 2 + stack_depth e} (omega arith)

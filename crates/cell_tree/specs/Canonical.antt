@@ -6,6 +6,8 @@ use Rattle.sys_base.specs.Key.{key_text}
 use Rattle.sys_base.specs.declared.key.Key.TheVariants as K
 use Rattle.sys_base.specs.declared.kinds.Dir.{Dir}
 use Rattle.sys_base.specs.declared.kinds.Dir.TheVariants.{N, E, S, W}
+use Rattle.cell_lexer.specs.Forms.{mark_text}
+use Rattle.cell_lexer.specs.declared.token.Mark.TheVariants as M
 use Rattle.cell_tree.specs.Pieces.{Piece, joined, after, none, space, bracketed, line}
 use Rattle.cell_tree.specs.Statement.{statement_pieces}
 use Rattle.cell_tree.specs.declared.source.CellDecl.{CellDecl}
@@ -24,17 +26,17 @@ dir_text W = codes "W"
 
 -- the pieces of a place: its row, a dot and its column
 abbrev pub place_pieces : Place → List Piece
-place_pieces place = after space (decimal place.row) ++ after none (codes ".") ++ after none (decimal place.col)
+place_pieces place = after space (decimal place.row) ++ after none (mark_text M.Dot) ++ after none (decimal place.col)
 
 -- the pieces of the `array` line, with which the text begins
 abbrev pub array_pieces : Source → List Piece
 array_pieces source =
     after none (key_text K.Array) ++ after space (decimal source.rows) ++ after space (codes "x")
-    ++ after space (decimal source.cols) ++ after none (codes ";")
+    ++ after space (decimal source.cols) ++ after none (mark_text M.Semicolon)
 
 -- the pieces of a line that gives one number
 abbrev pub setting_pieces : List ℕ → ℕ → List Piece
-setting_pieces key number = after (line 0) key ++ after space (decimal number) ++ after none (codes ";")
+setting_pieces key number = after (line 0) key ++ after space (decimal number) ++ after none (mark_text M.Semicolon)
 
 -- the pieces of the `buffer` line, which stands exactly where the buffer is not 0
 abbrev pub buffer_pieces : ℕ → List Piece
@@ -49,7 +51,7 @@ settings_pieces source =
 abbrev pub link_pieces : LinkDecl → List Piece
 link_pieces link =
     after (line 0) (key_text K.Link) ++ place_pieces link.place ++ after space (dir_text link.dir)
-    ++ after space (key_text K.Queues) ++ after space (decimal link.queues) ++ after none (codes ";")
+    ++ after space (key_text K.Queues) ++ after space (decimal link.queues) ++ after none (mark_text M.Semicolon)
 
 -- the pieces of a route, where one is given
 abbrev pub route_pieces : List Dir → List Piece
@@ -70,7 +72,7 @@ ends_pieces message =
 abbrev pub message_pieces : MessageDecl → List Piece
 message_pieces message =
     after (line 0) (key_text K.Message) ++ after space message.name ++ ends_pieces message
-    ++ route_pieces message.route ++ label_pieces message.label ++ after none (codes ";")
+    ++ route_pieces message.route ++ label_pieces message.label ++ after none (mark_text M.Semicolon)
 
 -- the pieces of an array's length, where there is one
 abbrev pub length_pieces : Option ℕ → List Piece
@@ -80,7 +82,8 @@ length_pieces (Some length) = bracketed (after none (decimal length))
 -- the pieces of a `var` line, which is inside a cell
 abbrev pub var_pieces : VarDecl → List Piece
 var_pieces variable =
-    after (line 1) (key_text K.Var) ++ after space variable.name ++ length_pieces variable.length ++ after none (codes ";")
+    after (line 1) (key_text K.Var) ++ after space variable.name ++ length_pieces variable.length
+    ++ after none (mark_text M.Semicolon)
 
 -- the pieces of a cell's contents: its `var` lines and then its statements
 abbrev pub contents_pieces : CellDecl → List Piece
@@ -89,8 +92,9 @@ contents_pieces cell = flat_map var_pieces cell.vars ++ flat_map (λ statement. 
 -- the pieces of a cell
 abbrev pub cell_pieces : CellDecl → List Piece
 cell_pieces cell =
-    after (line 0) (key_text K.Cell) ++ place_pieces cell.place ++ after space (codes "{") ++ contents_pieces cell
-    ++ after (line 0) (codes "}")
+    after (line 0) (key_text K.Cell) ++ place_pieces cell.place ++ after space (mark_text M.OpenBrace)
+    ++ contents_pieces cell
+    ++ after (line 0) (mark_text M.CloseBrace)
 
 -- the pieces of the canonical text
 abbrev pub canonical_pieces : Source → List Piece

@@ -36,7 +36,8 @@ act_stack (Act-F.Emit value) = stack_depth value
 act_stack (Act-F.For counter turns body) = greatest body
 act_stack (Act-F.If test first second) = max (stack_depth test) (max (greatest first) (greatest second))
 
--- how deep a stack a statement needs, and those in it: the value of an index lies on it while what is stored is evaluated
+-- how deep a stack a statement needs, and those in it: the value of an index lies on it while what is stored is
+-- evaluated
 abbrev pub statement_stack : Stmt → ℕ
 statement_stack = fold-Stmt ℕ ℕ act_stack (λ statement. statement.act)
 

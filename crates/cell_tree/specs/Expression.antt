@@ -1,6 +1,8 @@
 -- The canonical text of expressions.
-use Rattle.std.specs.Prelude.{ℕ, List, ◌++◌, codes, if◌then◌else◌}
+use Rattle.std.specs.Prelude.{ℕ, List, ◌++◌, if◌then◌else◌}
 use Rattle.std.specs.Fmt.{decimal}
+use Rattle.cell_lexer.specs.Forms.{mark_text}
+use Rattle.cell_lexer.specs.declared.token.Mark.TheVariants as M
 use Rattle.cell_tree.specs.Operator.{op_text, op_level, left_of, right_of, fits}
 use Rattle.cell_tree.specs.Pieces.{Piece, after, none, space, bracketed}
 use Rattle.cell_tree.specs.declared.expression.Expr.{Expr}
@@ -17,7 +19,8 @@ pub record Spelt : Type 0 where
 -- the pieces of an operand, in parentheses unless it fits the loosest level that stands there without
 abbrev pub at_level : Level → Spelt → List ℕ → List Piece
 at_level loosest e gap =
-    if fits e.level loosest then e.pieces gap else (after gap (codes "(") ++ e.pieces none ++ after none (codes ")"))
+    if fits e.level loosest then e.pieces gap
+    else (after gap (mark_text M.OpenParen) ++ e.pieces none ++ after none (mark_text M.CloseParen))
 
 -- the level of one node
 abbrev pub level_step : Expr-F Spelt → Level
@@ -33,9 +36,10 @@ pieces_step (Expr-F.Number n) gap = after gap (decimal n)
 pieces_step (Expr-F.Named name) gap = after gap name
 pieces_step (Expr-F.At name index) gap =
     after gap name ++ bracketed (index.pieces none)
-pieces_step (Expr-F.Negate e) gap = after gap (codes "-") ++ at_level (right_of Unary) e none
+pieces_step (Expr-F.Negate e) gap = after gap (mark_text M.Minus) ++ at_level (right_of Unary) e none
 pieces_step (Expr-F.Binary op left right) gap =
-    at_level (left_of (op_level op)) left gap ++ after space (op_text op) ++ at_level (right_of (op_level op)) right space
+    at_level (left_of (op_level op)) left gap ++ after space (op_text op)
+    ++ at_level (right_of (op_level op)) right space
 
 -- one node, whose operands are already spelt
 abbrev pub spell_step : Expr-F Spelt → Spelt

@@ -1,21 +1,28 @@
 -- The binary operators and the levels of expressions.
-use Rattle.std.specs.Prelude.{ℕ, Bool, List, codes, nat_le}
+use Rattle.std.specs.Prelude.{ℕ, Bool, List, nat_le}
 use Rattle.sys_base.specs.declared.kinds.Op.{Op}
 use Rattle.sys_base.specs.declared.kinds.Op.TheVariants as O
+use Rattle.cell_lexer.specs.Forms.{mark_text}
+use Rattle.cell_lexer.specs.declared.token.Mark.{Mark}
+use Rattle.cell_lexer.specs.declared.token.Mark.TheVariants as M
 use Rattle.cell_tree.specs.declared.level.Level.{Level}
 use Rattle.cell_tree.specs.declared.level.Level.TheVariants.{Comparison, Sum, Product, Unary, Atom}
 
+-- the mark of an operator
+abbrev pub op_mark : Op → Mark
+op_mark O.Add = M.Plus
+op_mark O.Sub = M.Minus
+op_mark O.Mul = M.Star
+op_mark O.Div = M.Slash
+op_mark O.Rem = M.Percent
+op_mark O.Less = M.Less
+op_mark O.AtMost = M.AtMost
+op_mark O.Same = M.Same
+op_mark O.Differ = M.Differ
+
 -- how an operator is spelt
 abbrev pub op_text : Op → List ℕ
-op_text O.Add = codes "+"
-op_text O.Sub = codes "-"
-op_text O.Mul = codes "*"
-op_text O.Div = codes "/"
-op_text O.Rem = codes "%"
-op_text O.Less = codes "<"
-op_text O.AtMost = codes "<="
-op_text O.Same = codes "=="
-op_text O.Differ = codes "!="
+op_text op = mark_text (op_mark op)
 
 -- the level of what an operator makes
 abbrev pub op_level : Op → Level
@@ -45,7 +52,8 @@ left_of Product = Product
 left_of Unary = Atom
 left_of Atom = Atom
 
--- the loosest level that the right or only operand has without parentheses, for each level of operators (the last has none)
+-- the loosest level that the right or only operand has without parentheses, for each level of operators (the last has
+-- none)
 abbrev pub right_of : Level → Level
 right_of Comparison = Sum
 right_of Sum = Product

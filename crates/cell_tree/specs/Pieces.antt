@@ -1,6 +1,8 @@
 -- A text as a list of tokens, each with the white space before it.
 use Rattle.std.specs.Prelude.{ℕ, ◌*◌, List, [], ◌∷◌, ◌++◌, codes, map, replicate}
 use Rattle.std.specs.List.{flat_map}
+use Rattle.cell_lexer.specs.Forms.{mark_text}
+use Rattle.cell_lexer.specs.declared.token.Mark.TheVariants as M
 
 -- a token and the white space before it
 pub record Piece : Type 0 where
@@ -29,7 +31,7 @@ space = codes " "
 
 -- some pieces in brackets
 abbrev pub bracketed : List Piece → List Piece
-bracketed inner = after none (codes "[") ++ inner ++ after none (codes "]")
+bracketed inner = after none (mark_text M.OpenBracket) ++ inner ++ after none (mark_text M.CloseBracket)
 
 -- a new line, indented by two spaces for each open block
 abbrev pub line : ℕ → List ℕ

@@ -1,8 +1,11 @@
 -- The trees whose canonical text is a text of the language.
-use Rattle.std.specs.Prelude.{◌≡◌, ℕ, ◌+◌, ◌-◌, ◌≤◌, Bool, true, not, nat_lt, ◌&&◌, ◌||◌, IsTrue, List, [], ◌∷◌, ◌++◌, codes, All, Option, Some, None, map, if◌then◌else◌}
+use Rattle.std.specs.Prelude.{◌≡◌, ℕ, ◌+◌, ◌-◌, ◌≤◌, Bool, true, not, nat_lt, ◌&&◌, ◌||◌, IsTrue, List, [], ◌∷◌, ◌++◌, All, Option, Some, None, map, if◌then◌else◌}
 use Rattle.std.specs.List.{concat, flat_map}
 use Rattle.std.specs.Str.{bytes_eq}
 use Rattle.sys_base.specs.Name.{IsName}
+use Rattle.cell_lexer.specs.Forms.{mark_text}
+use Rattle.cell_lexer.specs.declared.limits.TheConstants.{GREATEST_NUMBER, PIECE_TOKENS, OPEN_BRACES}
+use Rattle.cell_lexer.specs.declared.token.Mark.TheVariants as M
 use Rattle.cell_tree.specs.Canonical.{canonical_pieces}
 use Rattle.cell_tree.specs.Pieces.{words_of}
 use Rattle.cell_tree.specs.declared.expression.Expr.{Expr}
@@ -50,7 +53,8 @@ act_names (Act-F.Read message name) = message ∷ name ∷ []
 act_names (Act-F.Take name) = name ∷ []
 act_names (Act-F.Emit value) = names_of value
 act_names (Act-F.For counter turns body) = counter ∷ flat_map (λ names. names) body
-act_names (Act-F.If test first second) = names_of test ++ flat_map (λ names. names) first ++ flat_map (λ names. names) second
+act_names (Act-F.If test first second) = names_of test ++ flat_map (λ names. names) first
+    ++ flat_map (λ names. names) second
 
 -- the names in a statement
 abbrev pub statement_names : Stmt → List (List ℕ)
@@ -95,7 +99,8 @@ cell_names cell = map (λ variable. variable.name) cell.vars ++ flat_map stateme
 -- the numbers in a cell
 abbrev pub cell_numbers : CellDecl → List ℕ
 cell_numbers cell =
-    place_numbers cell.place ++ flat_map (λ variable. given variable.length) cell.vars ++ flat_map statement_numbers cell.body
+    place_numbers cell.place ++ flat_map (λ variable. given variable.length) cell.vars
+    ++ flat_map statement_numbers cell.body
 
 -- the names in a source
 abbrev pub source_names : Source → List (List ℕ)
@@ -109,35 +114,38 @@ source_numbers source =
 
 -- the word opens a block
 abbrev pub is_opening : List ℕ → Bool
-is_opening word = bytes_eq word (codes "{")
+is_opening word = bytes_eq word (mark_text M.OpenBrace)
 
 -- the word closes a block
 abbrev pub is_closing : List ℕ → Bool
-is_closing word = bytes_eq word (codes "}")
+is_closing word = bytes_eq word (mark_text M.CloseBrace)
 
 -- the word ends a run of words without `;`, `{` and `}`
 abbrev pub ends_run : List ℕ → Bool
-ends_run word = bytes_eq word (codes ";") || is_opening word || is_closing word
+ends_run word = bytes_eq word (mark_text M.Semicolon) || is_opening word || is_closing word
 
--- no run of words without `;`, `{` and `}` is longer than 256, where the present run has so many words already
+-- no run of words without `;`, `{` and `}` is too long, where the present run has this many words already
 abbrev pub runs_fit : ℕ → List (List ℕ) → Bool
 runs_fit run [] = true
-runs_fit run (word ∷ words) = if ends_run word then runs_fit 0 words else (nat_lt run 256 && runs_fit (run + 1) words)
+runs_fit run (word ∷ words) = if ends_run word then runs_fit 0 words
+    else (nat_lt run PIECE_TOKENS && runs_fit (run + 1) words)
 
--- the count of open braces after a word: an opening one adds one, and a closing one takes one away where the count is not 0
+-- the count of open braces after a word: an opening one adds one, and a closing one takes one away where the count is
+-- not 0
 abbrev pub open_after : ℕ → List ℕ → ℕ
 open_after count word = if is_opening word then count + 1 else (if is_closing word then count - 1 else count)
 
--- no brace opens where 17 are open, where so many are open before the words
+-- no brace opens where the most braces are open, where this many are open before the words
 abbrev pub braces_fit : ℕ → List (List ℕ) → Bool
 braces_fit count [] = true
-braces_fit count (word ∷ words) = (nat_lt count 17 || not (is_opening word)) && braces_fit (open_after count word) words
+braces_fit count (word ∷ words) = (nat_lt count OPEN_BRACES || not (is_opening word))
+    && braces_fit (open_after count word) words
 
 -- A tree is printable where its names and numbers are those of the language, it has no `buffer` line, and its
 -- canonical text keeps the limits on runs of words and on open braces.
 pub record IsPrintable (source : Source) : Type 0 where
   pub names : All IsName (source_names source)
-  pub numbers : All (λ n. n ≤ 9223372036854775807) (source_numbers source)
+  pub numbers : All (λ n. n ≤ GREATEST_NUMBER) (source_numbers source)
   pub buffer : source.buffer ≡ 0
   pub runs : IsTrue (runs_fit 0 (words_of (canonical_pieces source)))
   pub braces : IsTrue (braces_fit 0 (words_of (canonical_pieces source)))

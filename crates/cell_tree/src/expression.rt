@@ -1,13 +1,14 @@
-use sys_base::{Name, Op, Shared};
+use sqlite_items::Boxed;
+use sys_base::{Name, Op};
 
-/// An expression: parentheses leave no trace in it. Equal leaves may share their memory.
+/// An expression: parentheses leave no trace in it.
 #[derive(Debug, Drop)]
 pub enum Expr {
     Number(u64),
     /// A variable or a counter.
     Named(Name),
     /// An element of an array.
-    At(Name, Shared<Expr>),
-    Negate(Shared<Expr>),
-    Binary(Op, Shared<Expr>, Shared<Expr>),
+    At(Name, Boxed<Expr>),
+    Negate(Boxed<Expr>),
+    Binary(Op, Boxed<Expr>, Boxed<Expr>),
 }

@@ -12,7 +12,7 @@ mod statement;
 mod words;
 
 pub use expression::Expr;
-pub use laws::printable_is_shallow;
+pub use laws::{printable_is_shallow, printable_routes_are_short};
 pub use print_source::print;
 pub use source::{CellDecl, LinkDecl, MessageDecl, Place, Source, VarDecl};
 pub use statement::{Act, Stmt};

@@ -1,11 +1,12 @@
 ghost use Rattle.std.specs.Prelude.{◌≡◌, ◌++◌, OnOk};
 ghost use Rattle.cell_tree.specs.Expression.{spelt, at_level, expression_pieces};
-ghost use Rattle.cell_tree.specs.Operator.{op_text};
+ghost use Rattle.cell_tree.specs.Operator.{op_mark};
 ghost use Rattle.cell_tree.specs.Pieces.{joined, bracketed, none};
 
 use crate::expression::Expr;
 use crate::level::Level;
-use crate::words::{write_number, write_word};
+use crate::words::{write_mark, write_number, write_word};
+use cell_lexer::Mark;
 use sys_base::{Memory, Op};
 
 /// Writes a whole expression after some white space.
@@ -18,17 +19,17 @@ pub fn write_expression(out: &mut Vec<u8>, gap: &[u8], expr: &Expr) -> Result<()
         Expr::Named(name) => write_word(out, gap, name.bytes()),
         Expr::At(name, index) => {
             write_word(out, gap, name.bytes())?;
-            write_index(out, index.as_ref())
+            write_index(out, index.get())
         }
         Expr::Negate(operand) => {
-            write_word(out, gap, b"-")?;
-            write_operand(out, b"", operand.as_ref(), Level::Unary.right())
+            write_mark(out, gap, Mark::Minus)?;
+            write_operand(out, b"", operand.get(), Level::Unary.right())
         }
         Expr::Binary(op, left, right) => {
             let level = Level::of(*op);
-            write_operand(out, gap, left.as_ref(), level.left())?;
-            write_word(out, b" ", op_text(*op))?;
-            write_operand(out, b" ", right.as_ref(), level.right())
+            write_operand(out, gap, left.get(), level.left())?;
+            write_mark(out, b" ", op_mark(*op))?;
+            write_operand(out, b" ", right.get(), level.right())
         }
     }
 }
@@ -38,9 +39,9 @@ pub fn write_expression(out: &mut Vec<u8>, gap: &[u8], expr: &Expr) -> Result<()
 pub fn write_index(out: &mut Vec<u8>, index: &Expr) -> Result<(), Memory>
     ensures { OnOk result (out.new.items ≡ out.old.items ++ joined (bracketed (expression_pieces none index.now))) }
 {
-    write_word(out, b"", b"[")?;
+    write_mark(out, b"", Mark::OpenBracket)?;
     write_expression(out, b"", index)?;
-    write_word(out, b"", b"]")
+    write_mark(out, b"", Mark::CloseBracket)
 }
 
 /// Writes an operand after some white space, in parentheses unless it fits the loosest level that stands there without.
@@ -51,9 +52,9 @@ fn write_operand(out: &mut Vec<u8>, gap: &[u8], expr: &Expr, loosest: Level) -> 
     if level_of(expr).fits(loosest) {
         return write_expression(out, gap, expr);
     }
-    write_word(out, gap, b"(")?;
+    write_mark(out, gap, Mark::OpenParen)?;
     write_expression(out, b"", expr)?;
-    write_word(out, b"", b")")
+    write_mark(out, b"", Mark::CloseParen)
 }
 
 fn level_of(expr: &Expr) -> Level
@@ -66,18 +67,18 @@ fn level_of(expr: &Expr) -> Level
     }
 }
 
-fn op_text(op: Op) -> &'static [u8]
-    ensures { result.now ≡ op_text op }
+fn op_mark(op: Op) -> Mark
+    ensures { result ≡ op_mark op }
 {
     match op {
-        Op::Add => b"+",
-        Op::Sub => b"-",
-        Op::Mul => b"*",
-        Op::Div => b"/",
-        Op::Rem => b"%",
-        Op::Less => b"<",
-        Op::AtMost => b"<=",
-        Op::Same => b"==",
-        Op::Differ => b"!=",
+        Op::Add => Mark::Plus,
+        Op::Sub => Mark::Minus,
+        Op::Mul => Mark::Star,
+        Op::Div => Mark::Slash,
+        Op::Rem => Mark::Percent,
+        Op::Less => Mark::Less,
+        Op::AtMost => Mark::AtMost,
+        Op::Same => Mark::Same,
+        Op::Differ => Mark::Differ,
     }
 }

@@ -5,7 +5,8 @@ ghost use Rattle.cell_tree.specs.Pieces.{joined};
 
 use crate::print_statement::write_statements;
 use crate::source::{CellDecl, LinkDecl, MessageDecl, Place, Source, VarDecl};
-use crate::words::{write_line, write_number, write_word};
+use crate::words::{write_line, write_mark, write_mark_line, write_number, write_word};
+use cell_lexer::Mark;
 use std::alloc::Global;
 use sys_base::{Dir, Memory};
 
@@ -40,7 +41,7 @@ fn write_array(out: &mut Vec<u8>, source: &Source) -> Result<(), Memory>
     write_number(out, b" ", source.rows)?;
     write_word(out, b" ", b"x")?;
     write_number(out, b" ", source.cols)?;
-    write_word(out, b"", b";")
+    write_mark(out, b"", Mark::Semicolon)
 }
 
 /// Writes a line that gives one number.
@@ -49,7 +50,7 @@ fn write_setting(out: &mut Vec<u8>, key: &[u8], number: u64) -> Result<(), Memor
 {
     write_line(out, 0, key)?;
     write_number(out, b" ", number)?;
-    write_word(out, b"", b";")
+    write_mark(out, b"", Mark::Semicolon)
 }
 
 /// Writes the `buffer` line, where there is a buffer.
@@ -79,7 +80,7 @@ fn write_link(out: &mut Vec<u8>, link: &LinkDecl) -> Result<(), Memory>
     write_word(out, b" ", dir_text(link.dir))?;
     write_word(out, b" ", b"queues")?;
     write_number(out, b" ", link.queues)?;
-    write_word(out, b"", b";")
+    write_mark(out, b"", Mark::Semicolon)
 }
 
 fn write_messages(out: &mut Vec<u8>, messages: &[MessageDecl]) -> Result<(), Memory>
@@ -99,7 +100,7 @@ fn write_message(out: &mut Vec<u8>, message: &MessageDecl) -> Result<(), Memory>
     write_ends(out, message)?;
     write_route(out, message.route.as_slice())?;
     write_label(out, message.label)?;
-    write_word(out, b"", b";")
+    write_mark(out, b"", Mark::Semicolon)
 }
 
 /// Writes a message's sender and receiver.
@@ -152,9 +153,9 @@ fn write_cell(out: &mut Vec<u8>, cell: &CellDecl) -> Result<(), Memory>
 {
     write_line(out, 0, b"cell")?;
     write_place(out, cell.place)?;
-    write_word(out, b" ", b"{")?;
+    write_mark(out, b" ", Mark::OpenBrace)?;
     write_contents(out, cell)?;
-    write_line(out, 0, b"}")
+    write_mark_line(out, 0, Mark::CloseBrace)
 }
 
 /// Writes a cell's variables and its statements.
@@ -180,7 +181,7 @@ fn write_var(out: &mut Vec<u8>, variable: &VarDecl) -> Result<(), Memory>
     write_line(out, 1, b"var")?;
     write_word(out, b" ", variable.name.bytes())?;
     write_length(out, variable.length)?;
-    write_word(out, b"", b";")
+    write_mark(out, b"", Mark::Semicolon)
 }
 
 /// Writes the length of an array, where there is one.
@@ -188,9 +189,9 @@ fn write_length(out: &mut Vec<u8>, length: Option<u64>) -> Result<(), Memory>
     ensures { OnOk result (out.new.items ≡ out.old.items ++ joined (length_pieces length)) }
 {
     if let Some(length) = length {
-        write_word(out, b"", b"[")?;
+        write_mark(out, b"", Mark::OpenBracket)?;
         write_number(out, b"", length)?;
-        write_word(out, b"", b"]")?;
+        write_mark(out, b"", Mark::CloseBracket)?;
     }
     Ok(())
 }
@@ -200,7 +201,7 @@ fn write_place(out: &mut Vec<u8>, place: Place) -> Result<(), Memory>
     ensures { OnOk result (out.new.items ≡ out.old.items ++ joined (place_pieces place)) }
 {
     write_number(out, b" ", place.row)?;
-    write_word(out, b"", b".")?;
+    write_mark(out, b"", Mark::Dot)?;
     write_number(out, b"", place.col)
 }
 

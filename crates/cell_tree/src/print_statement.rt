@@ -7,13 +7,15 @@ ghost use Rattle.cell_tree.specs.declared.statement.Act.TheOpen.{Act-F};
 use crate::expression::Expr;
 use crate::print_expression::{write_expression, write_index};
 use crate::statement::{Act, Stmt};
-use crate::words::{write_line, write_number, write_word};
+use crate::words::{write_line, write_mark, write_mark_line, write_number, write_word};
+use cell_lexer::Mark;
 use sys_base::{Memory, Name};
 
-/// Writes statements that are inside so many open blocks.
+/// Writes statements that are inside this many open blocks.
 #[cycle(statement)]
 pub fn write_statements(out: &mut Vec<u8>, depth: usize, statements: &[Stmt]) -> Result<(), Memory>
-    ensures { OnOk result (out.new.items ≡ out.old.items ++ joined (flat_map (λ s. statement_pieces s depth) statements.now)) }
+    ensures { OnOk result (out.new.items ≡ out.old.items
+        ++ joined (flat_map (λ s. statement_pieces s depth) statements.now)) }
 {
     for statement in statements {
         write_statement(out, depth, statement)?;
@@ -49,15 +51,15 @@ fn write_statement(out: &mut Vec<u8>, depth: usize, statement: &Stmt) -> Result<
     }
 }
 
-/// Writes a block that is inside so many others.
+/// Writes a block that is inside this many others.
 #[cycle(statement)]
 fn write_block(out: &mut Vec<u8>, depth: usize, body: &[Stmt]) -> Result<(), Memory>
     ensures { OnOk result (out.new.items ≡ out.old.items ++ joined (block (map statement_pieces body.now) depth)) }
 {
     let inner = deeper(depth)?;
-    write_word(out, b" ", b"{")?;
+    write_mark(out, b" ", Mark::OpenBrace)?;
     write_statements(out, inner, body)?;
-    write_line(out, depth, b"}")
+    write_mark_line(out, depth, Mark::CloseBrace)
 }
 
 /// The depth inside one more block.
@@ -89,9 +91,9 @@ fn write_set(out: &mut Vec<u8>, depth: usize, name: &Name, value: &Expr) -> Resu
     ensures { OnOk result (out.new.items ≡ out.old.items ++ joined (act_step (Act-F.Set name.now value.now) depth)) }
 {
     write_line(out, depth, name.bytes())?;
-    write_word(out, b" ", b"=")?;
+    write_mark(out, b" ", Mark::Assign)?;
     write_expression(out, b" ", value)?;
-    write_word(out, b"", b";")
+    write_mark(out, b"", Mark::Semicolon)
 }
 
 fn write_set_at(
@@ -101,22 +103,24 @@ fn write_set_at(
     index: &Expr,
     value: &Expr,
 ) -> Result<(), Memory>
-    ensures { OnOk result (out.new.items ≡ out.old.items ++ joined (act_step (Act-F.SetAt name.now index.now value.now) depth)) }
+    ensures { OnOk result (out.new.items ≡ out.old.items
+        ++ joined (act_step (Act-F.SetAt name.now index.now value.now) depth)) }
 {
     write_line(out, depth, name.bytes())?;
     write_index(out, index)?;
-    write_word(out, b" ", b"=")?;
+    write_mark(out, b" ", Mark::Assign)?;
     write_expression(out, b" ", value)?;
-    write_word(out, b"", b";")
+    write_mark(out, b"", Mark::Semicolon)
 }
 
 fn write_write(out: &mut Vec<u8>, depth: usize, message: &Name, value: &Expr) -> Result<(), Memory>
-    ensures { OnOk result (out.new.items ≡ out.old.items ++ joined (act_step (Act-F.Write message.now value.now) depth)) }
+    ensures { OnOk result (out.new.items ≡ out.old.items
+        ++ joined (act_step (Act-F.Write message.now value.now) depth)) }
 {
     write_line(out, depth, b"write")?;
     write_word(out, b" ", message.bytes())?;
     write_expression(out, b" ", value)?;
-    write_word(out, b"", b";")
+    write_mark(out, b"", Mark::Semicolon)
 }
 
 fn write_read(out: &mut Vec<u8>, depth: usize, message: &Name, name: &Name) -> Result<(), Memory>
@@ -125,7 +129,7 @@ fn write_read(out: &mut Vec<u8>, depth: usize, message: &Name, name: &Name) -> R
     write_line(out, depth, b"read")?;
     write_word(out, b" ", message.bytes())?;
     write_word(out, b" ", name.bytes())?;
-    write_word(out, b"", b";")
+    write_mark(out, b"", Mark::Semicolon)
 }
 
 fn write_take(out: &mut Vec<u8>, depth: usize, name: &Name) -> Result<(), Memory>
@@ -133,7 +137,7 @@ fn write_take(out: &mut Vec<u8>, depth: usize, name: &Name) -> Result<(), Memory
 {
     write_line(out, depth, b"take")?;
     write_word(out, b" ", name.bytes())?;
-    write_word(out, b"", b";")
+    write_mark(out, b"", Mark::Semicolon)
 }
 
 fn write_emit(out: &mut Vec<u8>, depth: usize, value: &Expr) -> Result<(), Memory>
@@ -141,5 +145,5 @@ fn write_emit(out: &mut Vec<u8>, depth: usize, value: &Expr) -> Result<(), Memor
 {
     write_line(out, depth, b"emit")?;
     write_expression(out, b" ", value)?;
-    write_word(out, b"", b";")
+    write_mark(out, b"", Mark::Semicolon)
 }

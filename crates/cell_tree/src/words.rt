@@ -1,7 +1,9 @@
 ghost use Rattle.std.specs.Prelude.{◌≡◌, ◌++◌, OnOk};
 ghost use Rattle.std.specs.Fmt.{decimal};
+ghost use Rattle.cell_lexer.specs.Forms.{mark_text};
 ghost use Rattle.cell_tree.specs.Pieces.{joined, after, line};
 
+use cell_lexer::Mark;
 use itoa::Buffer;
 use sys_base::Memory;
 
@@ -14,6 +16,13 @@ pub fn write_word(out: &mut Vec<u8>, gap: &[u8], word: &[u8]) -> Result<(), Memo
     Ok(())
 }
 
+/// Writes a mark after some white space.
+pub fn write_mark(out: &mut Vec<u8>, gap: &[u8], mark: Mark) -> Result<(), Memory>
+    ensures { OnOk result (out.new.items ≡ out.old.items ++ joined (after gap.now (mark_text mark))) }
+{
+    write_word(out, gap, mark.text())
+}
+
 /// Writes a number after some white space.
 pub fn write_number(out: &mut Vec<u8>, gap: &[u8], number: u64) -> Result<(), Memory>
     ensures { OnOk result (out.new.items ≡ out.old.items ++ joined (after gap.now (decimal number))) }
@@ -22,7 +31,7 @@ pub fn write_number(out: &mut Vec<u8>, gap: &[u8], number: u64) -> Result<(), Me
     write_word(out, gap, buffer.format(number).as_bytes())
 }
 
-/// Writes the first word of a line that is inside so many open blocks.
+/// Writes the first word of a line that is inside this many open blocks.
 pub fn write_line(out: &mut Vec<u8>, depth: usize, word: &[u8]) -> Result<(), Memory>
     ensures { OnOk result (out.new.items ≡ out.old.items ++ joined (after (line depth) word.now)) }
 {
@@ -32,4 +41,11 @@ pub fn write_line(out: &mut Vec<u8>, depth: usize, word: &[u8]) -> Result<(), Me
     }
     out.extend_from_slice(word)?;
     Ok(())
+}
+
+/// Writes a mark that begins a line inside this many open blocks.
+pub fn write_mark_line(out: &mut Vec<u8>, depth: usize, mark: Mark) -> Result<(), Memory>
+    ensures { OnOk result (out.new.items ≡ out.old.items ++ joined (after (line depth) (mark_text mark))) }
+{
+    write_line(out, depth, mark.text())
 }

@@ -4,5 +4,5 @@ use Rattle.cell_tree.proofs.print_statement.+statement.Goals as goal
 
 pub write_block-returns : goal.write_block-returns
 write_block-returns t c =
-    on_ok_weaker _ (block_step _ _ _ _ c.args.body.now c.args.depth _ c.in_ok-inner.ensures c.in_ok-write_word.ensures
-    c.in_ok-write_statements.ensures) c.write_line.ensures
+    on_ok_weaker _ (block_step _ _ _ _ c.args.body.now c.args.depth _ c.in_ok-inner.ensures c.in_ok-write_mark.ensures
+    c.in_ok-write_statements.ensures) c.write_mark_line.ensures
