@@ -16,8 +16,8 @@ use Rattle.cell_tree.specs.declared.statement.Stmt.{Stmt}
 use Rattle.cell_parser.specs.Grammar as G
 use Rattle.cell_parser.specs.Grammar.{Class, Product, Additive, Comparison, Bracket, Other, class, Whole, Sum, Term, Unary, Atom, ReadsExpr, ReadsStmt, ReadsBody, Star, done, next, ReadsPlace, ReadsDir, ReadsLabel, ReadsRoute, ReadsLength, ReadsLink, ReadsMessage, ReadsVar, ReadsCell, Reads, on_line}
 use Rattle.cell_parser.specs.Lexeme.{Word, Named, Numeral, Keyword, Marked, Lexeme, At}
-use Rattle.cell_parser.specs.Machine as Mach
-use Rattle.cell_parser.specs.Machine.{same_word, dir_of, Closer, ByParen, ByBracket, BySemicolon, ByBrace, closing, Around, InCell, InLoop, InYes, InNo, Open, Negates, Operand, Terms, Sums, Compares, Then, State, Want, WantAtom, Called, Have, Body, Target, Expect, ExpectName, ExpectNumber, ExpectKey, ExpectDir, Route, Dirs, Label, Length, Links, Messages, Cells, Vars, whole, closed, at_atom, at_operand, at_terms, at_sums, at_compares, at_called, if_same, at_open, at_body, at_target, at_name, at_number, at_dir, at_dir_name, at_label, at_dirs, at_route, at_length, at_cells, at_messages, at_links, at_vars, with_link, with_message, with_cell, with_var, at, step, finish, going, run, start}
+use Rattle.cell_parser.specs.Inner.Machine as Mach
+use Rattle.cell_parser.specs.Inner.Machine.{same_word, dir_of, Closer, ByParen, ByBracket, BySemicolon, ByBrace, closing, Around, InCell, InLoop, InYes, InNo, Open, Negates, Operand, Terms, Sums, Compares, Then, State, Want, WantAtom, Called, Have, Body, Target, Expect, ExpectName, ExpectNumber, ExpectKey, ExpectDir, Route, Dirs, Label, Length, Links, Messages, Cells, Vars, whole, closed, at_atom, at_operand, at_terms, at_sums, at_compares, at_called, if_same, at_open, at_body, at_target, at_name, at_number, at_dir, at_dir_name, at_label, at_dirs, at_route, at_length, at_cells, at_messages, at_links, at_vars, with_link, with_message, with_cell, with_var, at, step, finish, going, run, start}
 use Rattle.cell_parser.proofs.Sentences.{Takes, takes, TakesName, takes_name, TakesNumber, takes_number, TakesKey, takes_key, Part, part, grown, Ends, ends, ReadsCalled, ReadsTarget, CellsGo, MessagesGo, LinksGo, Closes, BodyGoes, Goes, Sentence, After}
 use Rattle.cell_parser.proofs.Words.{same_words, text_of_dir}
 

@@ -7,7 +7,7 @@ use Rattle.cell_lexer.specs.declared.token.Token.{Token}
 use Rattle.cell_tree.specs.declared.source.CellDecl.{CellDecl}
 use Rattle.cell_tree.specs.declared.source.Source.{Source}
 use Rattle.cell_parser.specs.Lexeme.{Word, Named, Numeral, Keyword, Marked, Lexeme, At, lexemes}
-use Rattle.cell_parser.specs.Machine.{State, InCell, Body, Route, Dirs, Label, Length, Links, Messages, Cells, Vars, same_word, dir_of, mark, run, going, if_same, at_body, at_dir, at_label, at_route, at_length, at_cells, at_messages, at_links, at_vars}
+use Rattle.cell_parser.specs.Inner.Machine.{State, InCell, Body, Route, Dirs, Label, Length, Links, Messages, Cells, Vars, same_word, dir_of, mark, run, going, if_same, at_body, at_dir, at_label, at_route, at_length, at_cells, at_messages, at_links, at_vars}
 use Rattle.cell_parser.proofs.Steps.{Without}
 
 -- the step at the first word, where another state has the same one

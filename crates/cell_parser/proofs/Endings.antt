@@ -11,7 +11,7 @@ use Rattle.cell_tree.specs.declared.statement.Act.TheVariants as A
 use Rattle.cell_tree.specs.declared.statement.Stmt.{Stmt}
 use Rattle.cell_parser.specs.Grammar.{class, on_line}
 use Rattle.cell_parser.specs.Lexeme.{Word, Named, Numeral, Keyword, Marked, Lexeme, At}
-use Rattle.cell_parser.specs.Machine.{Closer, ByParen, ByBracket, BySemicolon, ByBrace, closing, Around, InCell, InLoop, InYes, InNo, Open, Negates, Operand, Terms, Sums, Compares, Then, State, Want, WantAtom, Called, Have, Body, Target, Expect, ExpectName, ExpectNumber, ExpectKey, ExpectDir, Route, Dirs, Label, Length, Links, Messages, Cells, Vars, if_same, going, run}
+use Rattle.cell_parser.specs.Inner.Machine.{Closer, ByParen, ByBracket, BySemicolon, ByBrace, closing, Around, InCell, InLoop, InYes, InNo, Open, Negates, Operand, Terms, Sums, Compares, Then, State, Want, WantAtom, Called, Have, Body, Target, Expect, ExpectName, ExpectNumber, ExpectKey, ExpectDir, Route, Dirs, Label, Length, Links, Messages, Cells, Vars, if_same, going, run}
 use Rattle.cell_parser.proofs.Words.{equal_words}
 use Rattle.cell_parser.proofs.Forward.{Clear, Passes, past_called, past_terms, past_sums, past_compares, past_operand, past_minus, sum_clear, term_clear, unary_clear, atom_clear}
 use Rattle.cell_parser.specs.Grammar.{Whole}
@@ -33,7 +33,7 @@ closing_braces (InYes l e before around) =
 closing_braces (InNo l e first before around) = word (Marked M.CloseBrace) (closing_braces around)
 
 abbrev mutual
-  -- the ending behind an operand
+  -- the ending after an operand
   operand_ending : Open → Expr → List Lexeme
   operand_ending (Negates k) e = operand_ending k (E.Negate e)
   operand_ending (Operand op e k) f = operand_ending k (E.Binary op e f)
@@ -64,7 +64,7 @@ abbrev mutual
   ending (Cells s) = []
   ending (Vars s c) = word (Marked M.CloseBrace) []
 
--- Nothing behind a whole expression goes on with it.
+-- Nothing after a whole expression goes on with it.
 closer_clear : (c : Closer) → Passes Whole (class (Marked (closing c)))
 closer_clear ByParen = tt
 closer_clear ByBracket = tt

@@ -12,7 +12,7 @@ use Rattle.cell_tree.specs.declared.statement.Act.TheVariants as A
 use Rattle.cell_parser.specs.FirstWrong.{FirstWrong}
 use Rattle.cell_parser.specs.Grammar.{Reads, on_line}
 use Rattle.cell_parser.specs.Lexeme.{Word, Named, Numeral, Keyword, Marked, Lexeme, At, lexemes}
-use Rattle.cell_parser.specs.Machine.{run, start}
+use Rattle.cell_parser.specs.Inner.Machine.{run, start}
 use Rattle.cell_parser.proofs.Backward.{backward}
 use Rattle.cell_parser.proofs.FirstWrongs.{first_wrong}
 
@@ -47,7 +47,7 @@ smallest = refl
 cut_off : run start (on 1 (Keyword K.Array ∷ Numeral 1 ∷ Named (codes "x") ∷ Numeral 2 ∷ [])) ≡ Err 0
 cut_off = refl
 
--- A name other than `x` behind the rows leaves it and what follows.
+-- A name other than `x` after the rows leaves it and what follows.
 no_x : run start (on 1 (Keyword K.Array ∷ Numeral 1 ∷ Named (codes "y") ∷ Numeral 2 ∷ [])) ≡ Err 2
 no_x = refl
 

@@ -5,7 +5,7 @@ use Rattle.std.proofs.lemmas.List.{append-nil}
 use Rattle.sys_base.specs.Name.{IsName}
 use Rattle.cell_lexer.specs.declared.token.Mark.TheVariants as M
 use Rattle.cell_parser.specs.Lexeme.{Word, Marked, Lexeme, At}
-use Rattle.cell_parser.specs.Told.{Told, Tell}
+use Rattle.cell_parser.specs.Inner.Told.{Told, Tell}
 use Rattle.cell_parser.proofs.ToldClear.{Names, Numbers}
 use Rattle.cell_parser.proofs.ToldLegible.{Fine}
 

@@ -4,12 +4,12 @@ use Rattle.cell_tree.specs.declared.source.Source.{Source}
 use Rattle.cell_parser.specs.FirstWrong.{Begins, FirstWrong}
 use Rattle.cell_parser.specs.Grammar.{Reads}
 use Rattle.cell_parser.specs.Lexeme.{Word, Lexeme, At}
-use Rattle.cell_parser.specs.Machine.{State, Links, Messages, Cells, at, finish, going, run, start}
+use Rattle.cell_parser.specs.Inner.Machine.{State, Links, Messages, Cells, at, finish, going, run, start}
 use Rattle.cell_parser.proofs.Backward.{no_ok, one_ok, backward}
 use Rattle.cell_parser.proofs.Endings.{Comes, ending, ending_comes}
 use Rattle.cell_parser.proofs.Forward.{forward}
 
--- A run that leaves so many words can come to a source up to a place, and can't with the word there.
+-- A run that leaves this many words can come to a source up to a place, and can't with the word there.
 record Stops (state : State) (ts : List Lexeme) (left : ℕ) : Type 0 where
   place : ℕ
   sum : place + left ≡ length ts

@@ -17,8 +17,8 @@ use Rattle.cell_tree.specs.declared.statement.Stmt.{Stmt}
 use Rattle.cell_parser.specs.Grammar as G
 use Rattle.cell_parser.specs.Grammar.{Class, Product, Additive, Comparison, Bracket, Other, class, Level, Whole, Sum, Term, Unary, Atom, ReadsExpr, ReadsStmt, ReadsBody, Star, done, next, ReadsPlace, ReadsDir, ReadsLabel, ReadsRoute, ReadsLength, ReadsLink, ReadsMessage, ReadsVar, ReadsCell, Reads, on_line}
 use Rattle.cell_parser.specs.Lexeme.{Word, Named, Numeral, Keyword, Marked, Lexeme, At}
-use Rattle.cell_parser.specs.Machine as Mach
-use Rattle.cell_parser.specs.Machine.{same_word, dir_of, Closer, ByParen, ByBracket, BySemicolon, ByBrace, closing, Around, InCell, InLoop, InYes, InNo, Open, Negates, Operand, Terms, Sums, Compares, Then, State, Want, WantAtom, Called, Have, Body, Target, Expect, ExpectName, ExpectNumber, ExpectKey, ExpectDir, Route, Dirs, Label, Length, Links, Messages, Cells, Vars, whole, closed, at_terms, at_sums, at_compares, at_called, at_dir, at_open, with_link, with_message, with_cell, with_var, at, step, finish, going, run, start}
+use Rattle.cell_parser.specs.Inner.Machine as Mach
+use Rattle.cell_parser.specs.Inner.Machine.{same_word, dir_of, Closer, ByParen, ByBracket, BySemicolon, ByBrace, closing, Around, InCell, InLoop, InYes, InNo, Open, Negates, Operand, Terms, Sums, Compares, Then, State, Want, WantAtom, Called, Have, Body, Target, Expect, ExpectName, ExpectNumber, ExpectKey, ExpectDir, Route, Dirs, Label, Length, Links, Messages, Cells, Vars, whole, closed, at_terms, at_sums, at_compares, at_called, at_dir, at_open, with_link, with_message, with_cell, with_var, at, step, finish, going, run, start}
 use Rattle.cell_parser.proofs.Words.{dir_of_text}
 
 -- A word of this class ends an expression of this level.

@@ -2,6 +2,7 @@ pub mod Backward
 pub mod DeclarationSteps
 pub mod Endings
 pub mod Examples
+pub mod FewNodes
 pub mod FewerWords
 pub mod FirstWrongs
 pub mod Forward
@@ -20,8 +21,9 @@ pub mod SaidSources
 pub mod SaidStatements
 pub mod SaidWords
 pub mod Sentences
+pub mod SomeOutcome
+pub mod Spellings
 pub mod Steps
-pub mod Tokens
 pub mod ToldClear
 pub mod ToldLegible
 pub mod ToldPieces

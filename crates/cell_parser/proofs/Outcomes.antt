@@ -5,7 +5,7 @@ use Rattle.cell_tree.specs.declared.source.Source.{Source}
 use Rattle.cell_parser.specs.FirstWrong.{FirstWrong}
 use Rattle.cell_parser.specs.Grammar.{Reads}
 use Rattle.cell_parser.specs.Lexeme.{lexemes}
-use Rattle.cell_parser.specs.Machine.{run, start}
+use Rattle.cell_parser.specs.Inner.Machine.{run, start}
 use Rattle.cell_parser.proofs.Backward.{backward}
 use Rattle.cell_parser.proofs.FirstWrongs.{first_wrong, left_within, no_source, one_source}
 

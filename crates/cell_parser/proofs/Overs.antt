@@ -7,18 +7,18 @@ use Rattle.std.proofs.lemmas.Option.{slice_get_within, get_or_from_slice_get, sl
 use Rattle.cell_lexer.specs.declared.token.Token.{Token}
 use Rattle.cell_parser.specs.declared.error.ParseError.{ParseError}
 use Rattle.cell_parser.specs.declared.error.ParseError.TheVariants as E
-use Rattle.cell_parser.specs.Limits.{parts, piece_behind, unparted, in_piece, open_behind, open_back, open_in, Over, OverAt, KeepLimits, FirstOver}
+use Rattle.cell_parser.specs.Limits.{parts, piece_after, unparted, in_piece, braces_after, open_back, open_in, Over, OverAt, KeepLimits, FirstOver}
 
 turned : (ts : List Token) (at : ℕ) (t : Token) → slice_get ts at ≡ Some t → reverse (take (at + 1) ts) ≡ t ∷ reverse (take at ts)
 turned ts at t e =
     let lt = slice_get_within ts at t e in
     ap reverse (take_more ts at t lt) ∙ reverse-append (take at ts) _ ∙ ap (λ u. u ∷ reverse (take at ts)) (get_or_from_slice_get ts at t t e)
 
--- the counts behind one more token
-pub piece_more : (ts : List Token) (at : ℕ) (t : Token) → slice_get ts at ≡ Some t → in_piece (take (at + 1) ts) ≡ piece_behind t.sort (in_piece (take at ts))
+-- the counts after one more token
+pub piece_more : (ts : List Token) (at : ℕ) (t : Token) → slice_get ts at ≡ Some t → in_piece (take (at + 1) ts) ≡ piece_after t.sort (in_piece (take at ts))
 piece_more ts at t e = ap unparted (turned ts at t e)
 
-pub open_more : (ts : List Token) (at : ℕ) (t : Token) → slice_get ts at ≡ Some t → open_in (take (at + 1) ts) ≡ open_behind t.sort (open_in (take at ts))
+pub open_more : (ts : List Token) (at : ℕ) (t : Token) → slice_get ts at ≡ Some t → open_in (take (at + 1) ts) ≡ braces_after t.sort (open_in (take at ts))
 open_more ts at t e = ap open_back (turned ts at t e)
 
 -- one more token breaks no limit

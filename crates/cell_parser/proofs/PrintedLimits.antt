@@ -13,7 +13,7 @@ use Rattle.cell_tree.specs.Pieces.{Piece, words_of}
 use Rattle.cell_tree.specs.Printable.{runs_fit, braces_fit, IsPrintable}
 use Rattle.cell_tree.specs.declared.source.Source.{Source}
 use Rattle.cell_parser.specs.Limits.{KeepLimits}
-use Rattle.cell_parser.specs.Told.{Told, Tell, spelling, told_word, told_piece, told}
+use Rattle.cell_parser.specs.Inner.Told.{Told, Tell, spelling, told_word, told_piece, told}
 use Rattle.cell_parser.proofs.Rooms.{Room, sorts_of, room_kept, says_alike, AllAlike, alike_none, alike_next, fit_room}
 use Rattle.cell_parser.proofs.ToldClear.{source_clear}
 use Rattle.cell_parser.proofs.ToldLegible.{told_sort, lexed, opens, Clear, fine_says}

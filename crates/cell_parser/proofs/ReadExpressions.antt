@@ -5,7 +5,7 @@ use Rattle.std.proofs.lemmas.Bool.Decides.{nat_tests}
 use Rattle.sys_base.specs.declared.kinds.Op.{Op}
 use Rattle.sys_base.specs.declared.kinds.Op.TheVariants as O
 use Rattle.cell_lexer.specs.declared.token.Mark.TheVariants as M
-use Rattle.cell_tree.specs.Operator.{rank, op_level, left_of, right_of, fits}
+use Rattle.cell_tree.specs.Operator.{op_mark, rank, op_level, left_of, right_of, fits}
 use Rattle.cell_tree.specs.Pieces.{none, space}
 use Rattle.cell_tree.specs.Printable.{names_step, names_of, numbers_step, numbers_of}
 use Rattle.cell_tree.specs.declared.expression.Expr.{Expr, map-Expr, roll-Expr}
@@ -18,7 +18,7 @@ use Rattle.cell_tree.specs.declared.level.Level.TheVariants as L
 use Rattle.cell_parser.specs.Grammar.{Class, Product, Additive, Comparison, class, Whole, Sum, Term, Unary, Atom, ReadsExpr, sum, comparison, term, addition, unary, product, minus, atom, number, named, element, parens}
 use Rattle.cell_parser.specs.Grammar as G
 use Rattle.cell_parser.specs.Lexeme.{Word, Named, Numeral, Keyword, Marked, Lexeme, At}
-use Rattle.cell_parser.specs.Told.{Told, tell, Voiced, at_most, voice_step, voiced, op_mark}
+use Rattle.cell_parser.specs.Inner.Told.{Told, tell, Voiced, at_most, voice_step, voiced}
 use Rattle.cell_parser.proofs.FewerWords.{Fewer, fewer_none, fewer_same, fewer_open, fewer_join, fewer_end, fewer_closed, Sound, names_join, numbers_join}
 use Rattle.cell_parser.proofs.ToldClear.{Names, Numbers}
 

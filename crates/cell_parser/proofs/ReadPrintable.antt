@@ -16,8 +16,8 @@ use Rattle.cell_tree.specs.Printable.{source_names, source_numbers, runs_fit, br
 use Rattle.cell_tree.specs.declared.source.Source.{Source}
 use Rattle.cell_parser.specs.Grammar.{Reads}
 use Rattle.cell_parser.specs.Lexeme.{word_of, Lexeme, At, lexemes}
-use Rattle.cell_parser.specs.Limits.{parts, piece_behind, open_behind, KeepLimits}
-use Rattle.cell_parser.specs.Told.{Told, told_piece, told}
+use Rattle.cell_parser.specs.Limits.{parts, piece_after, braces_after, KeepLimits}
+use Rattle.cell_parser.specs.Inner.Told.{Told, told_piece, told}
 use Rattle.cell_parser.proofs.FewerWords.{Fewer, fewer_none, fewer_same, fewer_open, fewer_close, Sound}
 use Rattle.cell_parser.proofs.PrintedLimits.{told_sorts, clear_alike}
 use Rattle.cell_parser.proofs.ReadSources.{source_read, no_buffer}
@@ -54,7 +54,7 @@ tokens_sound text from [] to h = tt
 tokens_sound text from (t ∷ ts) to h =
     (says_fine (take t.len (drop t.at text)) t.sort h.1.says, tokens_sound text (t.at + t.len) ts to h.2)
 
-shorter : (sort : Sort) (less more : ℕ) → less ≤ more → piece_behind sort less ≤ piece_behind sort more
+shorter : (sort : Sort) (less more : ℕ) → less ≤ more → piece_after sort less ≤ piece_after sort more
 shorter sort less more le =
     elim (parts sort) as (λ b. (if b then 0 else (1 + less)) ≤ (if b then 0 else (1 + more))) [
       | true ↦ omega arith
@@ -67,7 +67,7 @@ fewer_room fewer_none less more braces le r = tt
 fewer_room (fewer_same {w = w} p) less more braces le r = (
   λ e. (let lt = r.0 e in omega arith),
   r.1,
-  fewer_room p (piece_behind (told_sort w) less) (piece_behind (told_sort w) more) (open_behind (told_sort w) braces)
+  fewer_room p (piece_after (told_sort w) less) (piece_after (told_sort w) more) (braces_after (told_sort w) braces)
       (shorter (told_sort w) less more le) r.2,
 )
 fewer_room (fewer_open p) less more braces le r = fewer_room p less (1 + more) braces (omega arith) r.2

@@ -16,7 +16,7 @@ use Rattle.cell_tree.specs.declared.statement.Stmt.{Stmt}
 use Rattle.cell_parser.specs.Grammar.{Star, Reads, ReadsPlace, ReadsDir, ReadsRoute, ReadsLabel, ReadsLength, ReadsLink, ReadsMessage, ReadsVar, ReadsCell}
 use Rattle.cell_parser.specs.Grammar as G
 use Rattle.cell_parser.specs.Lexeme.{Named, Numeral, Keyword, Marked, Lexeme, At}
-use Rattle.cell_parser.specs.Told.{Told, Tell, tell, tell_place, tell_dir, tell_link, tell_route, tell_label, tell_message, tell_length, tell_var, tell_statement, tell_cell, told}
+use Rattle.cell_parser.specs.Inner.Told.{Told, Tell, tell, tell_place, tell_dir, tell_link, tell_route, tell_label, tell_message, tell_length, tell_var, tell_statement, tell_cell, told}
 use Rattle.cell_parser.proofs.FewerWords.{Fewer, fewer_none, fewer_same, fewer_join, fewer_end, Sound, names_join, numbers_join}
 use Rattle.cell_parser.proofs.ReadStatements.{BodyRead, body_read}
 use Rattle.cell_parser.proofs.ToldClear.{Names, Numbers, body_names, body_numbers, body_told}

@@ -13,7 +13,7 @@ use Rattle.cell_tree.specs.declared.statement.Stmt.{Stmt}
 use Rattle.cell_parser.specs.Grammar.{ReadsStmt, ReadsBody, on_line}
 use Rattle.cell_parser.specs.Grammar as G
 use Rattle.cell_parser.specs.Lexeme.{Marked, Lexeme, At}
-use Rattle.cell_parser.specs.Told.{Told, Tell, tell, Uttered, tell_act, tell_step, tell_statement}
+use Rattle.cell_parser.specs.Inner.Told.{Told, Tell, tell, Uttered, tell_act, tell_step, tell_statement}
 use Rattle.cell_parser.proofs.FewerWords.{Fewer, fewer_none, fewer_same, fewer_join, fewer_end, Sound, names_join, numbers_join}
 use Rattle.cell_parser.proofs.ReadExpressions.{expression_read}
 use Rattle.cell_parser.proofs.SaidStatements.{tell_of}

@@ -16,16 +16,16 @@ use Rattle.cell_lexer.specs.declared.token.Sort.{Sort}
 use Rattle.cell_lexer.specs.declared.token.Sort.TheVariants as S
 use Rattle.cell_lexer.specs.declared.token.Token.{Token}
 use Rattle.cell_tree.specs.Printable.{is_opening, is_closing, ends_run, runs_fit, open_after, braces_fit}
-use Rattle.cell_parser.specs.Limits.{parts, piece_behind, unparted, open_behind, open_back, Over, KeepLimits}
+use Rattle.cell_parser.specs.Limits.{parts, piece_after, unparted, braces_after, open_back, Over, KeepLimits}
 use Rattle.cell_parser.specs.declared.error.ParseError.{ParseError}
 use Rattle.cell_parser.specs.declared.error.ParseError.TheVariants as E
 
--- No token of these sorts breaks a limit, where so many tokens of the piece stand before them and so many braces are open.
+-- No token of these sorts breaks a limit, where this many tokens of the piece stand before them and this many braces are open.
 abbrev pub Room : ℕ → ℕ → List Sort → Type 0
 Room piece braces [] = Unit {0}
 Room piece braces (sort ∷ sorts) =
     (parts sort ≡ false → piece < 256) × (sort ≡ S.Mark M.OpenBrace → braces < 17)
-    × Room (piece_behind sort piece) (open_behind sort braces) sorts
+    × Room (piece_after sort piece) (braces_after sort braces) sorts
 
 -- the sorts of tokens
 abbrev pub sorts_of : List Token → List Sort
@@ -75,14 +75,14 @@ brace_room : (t : Token) (piece braces : ℕ) → braces ≤ 17 → ((e : ParseE
 brace_room t piece braces le f h =
     let no : braces ≡ 17 → ⊥ = λ is. f (E.Braces t.line) (refl, h, is) in omega (arith, no)
 
-piece_least : (sort : Sort) (piece : ℕ) → (parts sort ≡ false → piece < 256) → piece_behind sort piece ≤ 256
+piece_least : (sort : Sort) (piece : ℕ) → (parts sort ≡ false → piece < 256) → piece_after sort piece ≤ 256
 piece_least sort piece f =
     elim (parts sort) as (λ b. (b ≡ false → piece < 256) → (if b then 0 else (1 + piece)) ≤ 256) [
       | true ↦ λ g. omega arith
       | false ↦ λ g. let lt = g refl in omega arith
     ] f
 
-braces_least : (sort : Sort) (braces : ℕ) → braces ≤ 17 → (sort ≡ S.Mark M.OpenBrace → braces < 17) → open_behind sort braces ≤ 17
+braces_least : (sort : Sort) (braces : ℕ) → braces ≤ 17 → (sort ≡ S.Mark M.OpenBrace → braces < 17) → braces_after sort braces ≤ 17
 braces_least (S.Mark M.OpenBrace) braces le f = let lt = f refl in omega arith
 braces_least (S.Mark M.CloseBrace) braces le f = omega arith
 braces_least _ braces le f = le
@@ -195,12 +195,12 @@ pub data AllAlike : List (List ℕ) → List Sort → Type 0 where
       → AllAlike (bytes ∷ words) (sort ∷ sorts)
 
 open_sort : (sort : Sort) (braces : ℕ)
-    → (if opens_block sort then braces + 1 else (if closes_block sort then braces - 1 else braces)) ≡ open_behind sort braces
+    → (if opens_block sort then braces + 1 else (if closes_block sort then braces - 1 else braces)) ≡ braces_after sort braces
 open_sort (S.Mark M.OpenBrace) braces = refl
 open_sort (S.Mark M.CloseBrace) braces = refl
 open_sort _ braces = refl
 
-open_same : (sort : Sort) (bytes : List ℕ) (braces : ℕ) → Alike bytes sort → open_after braces bytes ≡ open_behind sort braces
+open_same : (sort : Sort) (bytes : List ℕ) (braces : ℕ) → Alike bytes sort → open_after braces bytes ≡ braces_after sort braces
 open_same sort bytes braces a =
     ap (λ (x : Bool). if x then braces + 1 else (if is_closing bytes then braces - 1 else braces)) a.opening
     ∙ ap (λ (x : Bool). if opens_block sort then braces + 1 else (if x then braces - 1 else braces)) a.closing
@@ -254,7 +254,7 @@ pub fit_room : {words : List (List ℕ)} {sorts : List Sort} → AllAlike words 
     → IsTrue (runs_fit piece words) → IsTrue (braces_fit braces words) → Room piece braces sorts
 fit_room alike_none piece braces p q = tt
 fit_room (alike_next {bytes = bytes} {sort = sort} {words = words} {sorts = sorts} a as_said) piece braces p q =
-    let runs : (parts sort ≡ false → piece < 256) × IsTrue (runs_fit (piece_behind sort piece) words) =
+    let runs : (parts sort ≡ false → piece < 256) × IsTrue (runs_fit (piece_after sort piece) words) =
     runs_kept (parts sort) piece words
     (subst (λ (b : Bool). IsTrue (if b then runs_fit 0 words else (nat_lt piece 256 && runs_fit (piece + 1) words))) a.ends p) in
     let opened : (opens_block sort ≡ true → braces < 17) × IsTrue (braces_fit (open_after braces bytes) words) =
@@ -262,7 +262,7 @@ fit_room (alike_next {bytes = bytes} {sort = sort} {words = words} {sorts = sort
     (subst (λ (b : Bool). IsTrue ((nat_lt braces 17 || not b) && braces_fit (open_after braces bytes) words)) a.opening q) in (
       runs.0,
       λ e. opened.0 (ap opens_block e),
-      fit_room as_said (piece_behind sort piece) (open_behind sort braces) runs.1
+      fit_room as_said (piece_after sort piece) (braces_after sort braces) runs.1
           (subst (λ (n : ℕ). IsTrue (braces_fit n words)) (open_same sort bytes braces a) opened.1),
     )
 
@@ -272,7 +272,7 @@ pub room_runs : {words : List (List ℕ)} {sorts : List Sort} → AllAlike words
 room_runs alike_none piece braces r = refl
 room_runs (alike_next {bytes = bytes} {sort = sort} {words = words} {sorts = sorts} a as_said) piece braces r =
     subst (λ (b : Bool). IsTrue (if b then runs_fit 0 words else (nat_lt piece 256 && runs_fit (piece + 1) words))) (sym a.ends)
-    (kept_runs (parts sort) piece words r.0 (room_runs as_said (piece_behind sort piece) (open_behind sort braces) r.2))
+    (kept_runs (parts sort) piece words r.0 (room_runs as_said (piece_after sort piece) (braces_after sort braces) r.2))
 
 -- the braces of words whose sorts have room fit
 pub room_braces : {words : List (List ℕ)} {sorts : List Sort} → AllAlike words sorts → (piece braces : ℕ)
@@ -282,4 +282,4 @@ room_braces (alike_next {bytes = bytes} {sort = sort} {words = words} {sorts = s
     subst (λ (b : Bool). IsTrue ((nat_lt braces 17 || not b) && braces_fit (open_after braces bytes) words)) (sym a.opening)
     (kept_braces (opens_block sort) braces (braces_fit (open_after braces bytes) words) (λ e. r.1 (opens_is sort e))
     (subst (λ (n : ℕ). IsTrue (braces_fit n words)) (sym (open_same sort bytes braces a))
-    (room_braces as_said (piece_behind sort piece) (open_behind sort braces) r.2)))
+    (room_braces as_said (piece_after sort piece) (braces_after sort braces) r.2)))

@@ -4,7 +4,7 @@ use Rattle.std.specs.Prelude.{if◌then◌else◌}
 use Rattle.sys_base.specs.declared.kinds.Op.{Op}
 use Rattle.sys_base.specs.declared.kinds.Op.TheVariants as O
 use Rattle.cell_lexer.specs.declared.token.Mark.TheVariants as M
-use Rattle.cell_tree.specs.Operator.{op_level, left_of, right_of, fits}
+use Rattle.cell_tree.specs.Operator.{op_mark, op_level, left_of, right_of, fits}
 use Rattle.cell_tree.specs.Pieces.{none, space}
 use Rattle.cell_tree.specs.declared.expression.Expr.{Expr, map-Expr, roll-Expr}
 use Rattle.cell_tree.specs.declared.expression.Expr.TheFolds.{fold-roll-Expr, ind-Expr}
@@ -16,7 +16,7 @@ use Rattle.cell_tree.specs.declared.level.Level.TheVariants as L
 use Rattle.cell_parser.specs.Grammar.{Whole, Sum, Term, Unary, Atom, ReadsExpr, sum, comparison, term, addition, unary, product, minus, atom, number, named, element, parens}
 use Rattle.cell_parser.specs.Grammar as G
 use Rattle.cell_parser.specs.Lexeme.{Named, Numeral, Marked, Lexeme, At}
-use Rattle.cell_parser.specs.Told.{Told, Tell, tell, Voiced, at_most, voice_step, voiced, tell_expression, op_mark}
+use Rattle.cell_parser.specs.Inner.Told.{Told, Tell, tell, Voiced, at_most, voice_step, voiced, tell_expression}
 use Rattle.cell_parser.proofs.SaidWords.{Said, said_none, said_next, split, split_end}
 
 -- the grammar's level of a level of the tree

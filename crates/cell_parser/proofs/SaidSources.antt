@@ -16,7 +16,7 @@ use Rattle.cell_parser.specs.Grammar.{Star, Reads, ReadsDir, ReadsRoute, ReadsLa
 use Rattle.cell_parser.specs.Grammar as G
 use Rattle.cell_parser.specs.Lexeme.{Named, Numeral, Keyword, Marked, Lexeme, At}
 use Rattle.cell_parser.specs.Printed.{spoken, Covers, unlined_statement, unlined_cell, unlined}
-use Rattle.cell_parser.specs.Told.{Told, tell_array, tell_setting, tell_buffer, tell_dir, tell_link, tell_route, tell_label, tell_message, tell_length, tell_var, tell_statement, tell_cell, told}
+use Rattle.cell_parser.specs.Inner.Told.{Told, tell_array, tell_setting, tell_buffer, tell_dir, tell_link, tell_route, tell_label, tell_message, tell_length, tell_var, tell_statement, tell_cell, told}
 use Rattle.cell_parser.proofs.SaidWords.{Said, said_none, said_next, said_of, split, split_end}
 use Rattle.cell_parser.proofs.SaidStatements.{statements_said}
 

@@ -16,7 +16,7 @@ use Rattle.cell_parser.specs.Grammar.{Whole, ReadsExpr, on_line, ReadsStmt, Read
 use Rattle.cell_parser.specs.Grammar as G
 use Rattle.cell_parser.specs.Lexeme.{Named, Numeral, Keyword, Marked, Lexeme, At}
 use Rattle.cell_parser.specs.Printed.{unlined_act, unlined_step, unlined_statement}
-use Rattle.cell_parser.specs.Told.{Told, Tell, tell, tell_expression, Uttered, tell_act, tell_step, tell_statement}
+use Rattle.cell_parser.specs.Inner.Told.{Told, Tell, tell, tell_expression, Uttered, tell_act, tell_step, tell_statement}
 use Rattle.cell_parser.proofs.SaidWords.{Said, said_none, said_next, split, split_end}
 use Rattle.cell_parser.proofs.SaidExpressions.{expression_said}
 

@@ -2,7 +2,7 @@
 use Rattle.std.proofs.Common.{ℕ, List, [], ◌∷◌, ◌++◌, map}
 use Rattle.cell_parser.specs.Lexeme.{Word, Lexeme, At}
 use Rattle.cell_parser.specs.Printed.{Covers, covers_none, covers_next}
-use Rattle.cell_parser.specs.Told.{Told, Tell, tell, told_word}
+use Rattle.cell_parser.specs.Inner.Told.{Told, Tell, tell, told_word}
 
 -- The first list of lexemes, up to the second one, says just these words, on any lines.
 pub data Said : List Told → List Lexeme → List Lexeme → Type 0 where

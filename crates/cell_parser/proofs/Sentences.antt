@@ -10,25 +10,25 @@ use Rattle.cell_tree.specs.declared.statement.Act.TheVariants as A
 use Rattle.cell_tree.specs.declared.statement.Stmt.{Stmt}
 use Rattle.cell_parser.specs.Grammar.{Level, Whole, Sum, Term, Unary, Atom, ReadsExpr, ReadsStmt, ReadsBody, Star, ReadsDir, ReadsLink, ReadsRoute, ReadsLabel, ReadsMessage, ReadsLength, ReadsVar, ReadsCell, on_line}
 use Rattle.cell_parser.specs.Lexeme.{Word, Named, Numeral, Keyword, Marked, Lexeme, At}
-use Rattle.cell_parser.specs.Machine.{Around, InCell, InLoop, InYes, InNo, closing, Open, Negates, Operand, Terms, Sums, Compares, Then, State, Want, WantAtom, Called, Have, Body, Target, Expect, ExpectName, ExpectNumber, ExpectKey, ExpectDir, Route, Dirs, Label, Length, Links, Messages, Cells, Vars, with_cell}
+use Rattle.cell_parser.specs.Inner.Machine.{Around, InCell, InLoop, InYes, InNo, closing, Open, Negates, Operand, Terms, Sums, Compares, Then, State, Want, WantAtom, Called, Have, Body, Target, Expect, ExpectName, ExpectNumber, ExpectKey, ExpectDir, Route, Dirs, Label, Length, Links, Messages, Cells, Vars, with_cell}
 
--- This word stands first, and behind it something holds.
+-- This word stands first, and after it something holds.
 pub data Takes (w : Word) (P : List Lexeme → Type 0) : List Lexeme → Type 0 where
   takes : {l : ℕ} {us : List Lexeme} → P us → Takes w P (At l w ∷ us)
 
--- A name stands first, and behind it something holds of it.
+-- A name stands first, and after it something holds of it.
 pub data TakesName (P : List ℕ → List Lexeme → Type 0) : List Lexeme → Type 0 where
   takes_name : {l : ℕ} {n : List ℕ} {us : List Lexeme} → P n us → TakesName P (At l (Named n) ∷ us)
 
--- A number stands first, and behind it something holds of it.
+-- A number stands first, and after it something holds of it.
 pub data TakesNumber (P : ℕ → List Lexeme → Type 0) : List Lexeme → Type 0 where
   takes_number : {l n : ℕ} {us : List Lexeme} → P n us → TakesNumber P (At l (Numeral n) ∷ us)
 
--- This keyword stands first, and behind it something holds of its line.
+-- This keyword stands first, and after it something holds of its line.
 pub data TakesKey (k : Key) (P : ℕ → List Lexeme → Type 0) : List Lexeme → Type 0 where
   takes_key : {l : ℕ} {us : List Lexeme} → P l us → TakesKey k P (At l (Keyword k) ∷ us)
 
--- Words that read to a part stand first, and behind them something holds of the part.
+-- Words that read to a part stand first, and after them something holds of the part.
 pub data Part {A : Type 0} (R : A → List Lexeme → List Lexeme → Type 0) (P : A → List Lexeme → Type 0) : List Lexeme → Type 0 where
   part : {a : A} {ts us : List Lexeme} → R a ts us → P a us → Part R P ts
 
@@ -41,23 +41,23 @@ pub data Grown (low high : Level) (e : Expr) (P : Expr → List Lexeme → Type 
 pub data Ends (s p : Source) : List Lexeme → Type 0 where
   ends : s ≡ p → Ends s p []
 
--- The words behind a name that make an expression of it.
+-- The words after a name that make an expression of it.
 abbrev pub ReadsCalled : List ℕ → Expr → List Lexeme → List Lexeme → Type 0
 ReadsCalled n e ts us = (l : ℕ) → ReadsExpr Atom e (At l (Named n) ∷ ts) us
 
--- The words behind a name on a line that make a statement of it.
+-- The words after a name on a line that make a statement of it.
 abbrev pub ReadsTarget : ℕ → List ℕ → Stmt → List Lexeme → List Lexeme → Type 0
 ReadsTarget l n s ts us = ReadsStmt s (At l (Named n) ∷ ts) us
 
--- Cells go on to the source, behind this part of it.
+-- Cells go on to the source, after this part of it.
 abbrev pub CellsGo : Source → Source → List Lexeme → Type 0
 CellsGo p s = Part (Star ReadsCell) (λ xs. Ends (record s { cells = s.cells ++ xs }) p)
 
--- Messages and cells go on to the source, behind this part of it.
+-- Messages and cells go on to the source, after this part of it.
 abbrev pub MessagesGo : Source → Source → List Lexeme → Type 0
 MessagesGo p s = Part (Star ReadsMessage) (λ xs. CellsGo p (record s { messages = s.messages ++ xs }))
 
--- `link` lines, messages and cells go on to the source, behind this part of it.
+-- `link` lines, messages and cells go on to the source, after this part of it.
 abbrev pub LinksGo : Source → Source → List Lexeme → Type 0
 LinksGo p s = Part (Star ReadsLink) (λ xs. MessagesGo p (record s { links = s.links ++ xs }))
 
@@ -72,7 +72,7 @@ Closes p (InYes l e before around) b =
 Closes p (InNo l e first before around) b =
     Takes (Marked M.CloseBrace) (Part ReadsBody (λ d. Closes p around ((before ++ on_line l (A.If e first b) ∷ []) ++ d)))
 
--- Statements go on behind these ones, and the blocks around close.
+-- Statements go on after these ones, and the blocks around close.
 abbrev pub BodyGoes : Source → Around → List Stmt → List Lexeme → Type 0
 BodyGoes p around b = Part ReadsBody (λ c. Closes p around (b ++ c))
 

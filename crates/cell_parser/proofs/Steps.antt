@@ -13,8 +13,8 @@ use Rattle.cell_tree.specs.declared.expression.Expr.TheVariants as E
 use Rattle.cell_tree.specs.declared.statement.Stmt.{Stmt}
 use Rattle.cell_parser.specs.Grammar.{Class, Product, Additive, Comparison, Bracket, Other, class}
 use Rattle.cell_parser.specs.Lexeme.{Word, Named, Numeral, Keyword, Marked, Lexeme, At, lexemes}
-use Rattle.cell_parser.specs.Machine.{Around, Body, Target, at_body, Closer, closing, State, Open, Want, WantAtom, Called, Have, Terms, Sums, Compares, Negates, Operand, Then, Expect, ExpectName, ExpectNumber, ExpectKey, ExpectDir, same_word, dir_of, run, going, if_same, at_dir, at_terms, at_sums, at_compares, at_called, at_open, at_operand, at_atom}
-use Rattle.cell_parser.specs.Reading.{Lacks, IsStuck, Misses}
+use Rattle.cell_parser.specs.Inner.Machine.{Around, Body, Target, at_body, Closer, closing, State, Open, Want, WantAtom, Called, Have, Terms, Sums, Compares, Negates, Operand, Then, Expect, ExpectName, ExpectNumber, ExpectKey, ExpectDir, same_word, dir_of, run, going, if_same, at_dir, at_terms, at_sums, at_compares, at_called, at_open, at_operand, at_atom}
+use Rattle.cell_parser.specs.Inner.Reading.{Lacks, IsStuck, Misses}
 use Rattle.cell_parser.specs.declared.fault.Fault.{Fault}
 use Rattle.cell_parser.specs.declared.fault.Fault.TheVariants as F
 use Rattle.cell_parser.proofs.Words.{same_words}
@@ -214,7 +214,7 @@ pub if_none_map : {A : Type 0} (o : Option A) (P Q : Type 0) → (P → Q) → I
 if_none_map None P Q f p = f p
 if_none_map (Some x) P Q f p = tt
 
--- Where no mark comes first, the first word does nothing behind an operand.
+-- Where no mark comes first, the first word does nothing after an operand.
 no_mark : (xs : List Lexeme) → ((m : Mark) → Without (Marked m) xs) → (l : ℕ) (w : Word) (us : List Lexeme) → xs ≡ At l w ∷ us → class w ≡ Other
 no_mark xs h l (Named n) us e = refl
 no_mark xs h l (Numeral n) us e = refl
@@ -230,7 +230,7 @@ sums_end e k xs h = sums_pass e k xs (λ l w us op at is. let other : Other ≡ 
 pub compares_end : (e : Expr) (k : Open) (xs : List Lexeme) → ((m : Mark) → Without (Marked m) xs) → run (Have e (Compares k)) xs ≡ run (Have e k) xs
 compares_end e k xs h = compares_pass e k xs (λ l w us op at is. let other : Other ≡ Comparison op = sym (no_mark xs h l w us at) ∙ is in absurd (cc))
 
--- An operand that goes into a larger one, or to a mark behind the whole expression.
+-- An operand that goes into a larger one, or to a mark after the whole expression.
 pub have_operand : (op : Op) (e f : Expr) (k : Open) (xs : List Lexeme) → run (Have f (Operand op e k)) xs ≡ run (Have (E.Binary op e f) k) xs
 have_operand op e f k [] = refl
 have_operand op e f k (At l w ∷ xs) = refl
@@ -293,7 +293,7 @@ body_lacks b around (At l (Marked M.Star) ∷ us) name key brace = refl
 body_lacks b around (At l (Marked M.Slash) ∷ us) name key brace = refl
 body_lacks b around (At l (Marked M.Percent) ∷ us) name key brace = refl
 
--- No assignment goes on with these words behind the name of its target.
+-- No assignment goes on with these words after the name of its target.
 pub target_lacks : (line : ℕ) (n : List ℕ) (b : List Stmt) (around : Around) (xs : List Lexeme) → Without (Marked M.Assign) xs → Without (Marked M.OpenBracket) xs → run (Target line n b around) xs ≡ Err (length xs)
 target_lacks line n b around [] assign bracket = refl
 target_lacks line n b around (At l (Named m) ∷ us) assign bracket = refl

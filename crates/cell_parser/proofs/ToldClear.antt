@@ -14,7 +14,7 @@ use Rattle.sys_base.specs.declared.kinds.Op.{Op}
 use Rattle.cell_lexer.specs.Pieces.{Blank}
 use Rattle.cell_lexer.specs.declared.token.Mark.TheVariants as M
 use Rattle.cell_tree.specs.Canonical.{dir_text}
-use Rattle.cell_tree.specs.Operator.{op_level, left_of, right_of, fits}
+use Rattle.cell_tree.specs.Operator.{op_mark, op_level, left_of, right_of, fits}
 use Rattle.cell_tree.specs.Pieces.{none, space, line}
 use Rattle.cell_tree.specs.Printable.{names_step, names_of, numbers_step, numbers_of, act_names, statement_names, act_numbers, statement_numbers, given, link_numbers, message_numbers, cell_names, cell_numbers, source_names, source_numbers, IsPrintable}
 use Rattle.cell_tree.specs.declared.expression.Expr.{Expr, map-Expr, roll-Expr}
@@ -33,7 +33,7 @@ use Rattle.cell_tree.specs.declared.statement.Act.TheOpen.{Act-F, Stmt-F}
 use Rattle.cell_tree.specs.declared.statement.Act.TheViews.{roll-Stmt, roll-Act}
 use Rattle.cell_tree.specs.declared.statement.Stmt.{Stmt}
 use Rattle.cell_parser.specs.Lexeme.{Keyword, Marked}
-use Rattle.cell_parser.specs.Told.{Told, Tell, tell, op_mark, Voiced, at_most, voice_step, voiced, tell_expression, Uttered, tell_act, tell_step, tell_statement, tell_array, tell_setting, tell_buffer, tell_settings, tell_dir, tell_link, tell_route, tell_label, tell_message, tell_length, tell_var, tell_cell, told}
+use Rattle.cell_parser.specs.Inner.Told.{Told, Tell, tell, Voiced, at_most, voice_step, voiced, tell_expression, Uttered, tell_act, tell_step, tell_statement, tell_array, tell_setting, tell_buffer, tell_settings, tell_dir, tell_link, tell_route, tell_label, tell_message, tell_length, tell_var, tell_cell, told}
 use Rattle.cell_parser.proofs.SaidStatements.{tell_of}
 use Rattle.cell_parser.proofs.ToldLegible.{opens, gapped, Clear, join, choose, line_blank}
 

@@ -15,7 +15,7 @@ use Rattle.cell_lexer.specs.declared.token.Token.{Token}
 use Rattle.cell_tree.specs.Pieces.{joined, line}
 use Rattle.cell_parser.specs.Lexeme.{Word, Named, Numeral, Keyword, Marked, word_of, lexemes}
 use Rattle.cell_parser.specs.Printed.{Covers, covers_none, covers_next}
-use Rattle.cell_parser.specs.Told.{Told, Tell, spelling, told_word, told_piece}
+use Rattle.cell_parser.specs.Inner.Told.{Told, Tell, spelling, told_word, told_piece}
 
 -- the sort of a word
 abbrev pub told_sort : Word → Sort
@@ -28,7 +28,7 @@ told_sort (Marked m) = S.Mark m
 abbrev pub lexed : Told → LexedPiece
 lexed (Tell gap word) = record { gap = gap; word = spelling word; sort = told_sort word }
 
--- no byte behind the word makes it longer
+-- no byte after the word makes it longer
 abbrev pub opens : Word → Bool
 opens (Marked M.OpenParen) = true
 opens (Marked M.OpenBracket) = true

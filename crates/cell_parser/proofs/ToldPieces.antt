@@ -12,7 +12,7 @@ use Rattle.cell_lexer.specs.Forms.{mark_text}
 use Rattle.cell_lexer.specs.declared.token.Mark.TheVariants as M
 use Rattle.cell_tree.specs.Canonical.{dir_text, array_pieces, ends_pieces, link_pieces, route_pieces, label_pieces, message_pieces, length_pieces, var_pieces, cell_pieces, buffer_pieces, setting_pieces, canonical_pieces}
 use Rattle.cell_tree.specs.Expression.{Spelt, at_level, spell_step, spelt, expression_pieces}
-use Rattle.cell_tree.specs.Operator.{op_text, op_level, left_of, right_of, fits}
+use Rattle.cell_tree.specs.Operator.{op_mark, op_text, op_level, left_of, right_of, fits}
 use Rattle.cell_tree.specs.Pieces.{Piece, none, space, line, after}
 use Rattle.cell_tree.specs.Statement.{Printed, act_step, statement_step, statement_pieces}
 use Rattle.cell_tree.specs.declared.expression.Expr.{Expr, map-Expr, roll-Expr}
@@ -30,7 +30,7 @@ use Rattle.cell_tree.specs.declared.statement.Act.TheOpen.{Act-F, Stmt-F}
 use Rattle.cell_tree.specs.declared.statement.Act.TheViews.{roll-Stmt, roll-Act}
 use Rattle.cell_tree.specs.declared.statement.Stmt.{Stmt}
 use Rattle.cell_parser.specs.Lexeme.{Named, Keyword, Marked}
-use Rattle.cell_parser.specs.Told.{Told, Tell, tell, tell_ends, tell_array, told_piece, op_mark, Voiced, at_most, voice_step, voiced, tell_expression, Uttered, tell_act, tell_step, tell_statement, tell_dir, tell_link, tell_route, tell_label, tell_message, tell_length, tell_var, tell_cell, tell_setting, tell_buffer, told}
+use Rattle.cell_parser.specs.Inner.Told.{Told, Tell, tell, tell_ends, tell_array, told_piece, Voiced, at_most, voice_step, voiced, tell_expression, Uttered, tell_act, tell_step, tell_statement, tell_dir, tell_link, tell_route, tell_label, tell_message, tell_length, tell_var, tell_cell, tell_setting, tell_buffer, told}
 use Rattle.cell_parser.proofs.SaidStatements.{tell_of}
 
 -- What is voiced is of the same level and is spelt as the pieces say.

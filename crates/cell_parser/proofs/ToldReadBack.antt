@@ -16,7 +16,7 @@ use Rattle.cell_tree.specs.declared.source.Source.{Source}
 use Rattle.cell_parser.specs.Grammar.{Reads}
 use Rattle.cell_parser.specs.Lexeme.{lexemes}
 use Rattle.cell_parser.specs.Printed.{spoken, Covers, unlined}
-use Rattle.cell_parser.specs.Told.{told}
+use Rattle.cell_parser.specs.Inner.Told.{told}
 use Rattle.cell_parser.proofs.SaidSources.{source_said}
 use Rattle.cell_parser.proofs.ToldClear.{source_clear}
 use Rattle.cell_parser.proofs.ToldLegible.{lexed, told_text, clear_legible, placed_heard}

@@ -6,10 +6,10 @@ use Rattle.sys_base.specs.Key.{key_text}
 use Rattle.sys_base.specs.declared.kinds.Dir.{Dir}
 use Rattle.sys_base.specs.declared.kinds.Dir.TheVariants as D
 use Rattle.cell_lexer.specs.Forms.{mark_text}
-use Rattle.cell_lexer.proofs.Spellings.{one_mark, one_key}
 use Rattle.cell_tree.specs.Canonical.{dir_text}
 use Rattle.cell_parser.specs.Lexeme.{Word, Named, Numeral, Keyword, Marked}
-use Rattle.cell_parser.specs.Machine.{same_word, dir_of}
+use Rattle.cell_parser.specs.Inner.Machine.{same_word, dir_of}
+use Rattle.cell_parser.proofs.Spellings.{one_mark, one_key}
 
 abbrev IsYes : Bool → Type 0
 IsYes true = Unit {0}

@@ -8,8 +8,8 @@ use Rattle.cell_parser.specs.Lexeme.{Lexeme}
 abbrev pub Begins : List Lexeme → Type 0
 Begins ts = (us : List Lexeme) × (s : Source) × Reads (ts ++ us) s
 
--- The words before a place begin a source, and the words up to and with the one at the place do not; the place behind the
--- last word is wrong where the words are no source.
+-- The words before a place begin a source, and the words up to and with the one at the place do not; the place after
+-- the last word is wrong where the words are no source.
 pub record FirstWrong (ts : List Lexeme) (at : ℕ) : Type 0 where
   pub within : at ≤ length ts
   pub before : Begins (take at ts)

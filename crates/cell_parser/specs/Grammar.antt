@@ -1,6 +1,7 @@
 -- The grammar of sources: for each production the words that it stands for, and what they read to.
 --
--- Each relation says that the first list of words, up to the second list, which is the rest behind them, reads to a tree.
+-- Each relation says that the first list of words, up to the second list, which is the rest after them, reads to a
+-- tree.
 use Rattle.std.specs.Prelude.{ℕ, ◌≡◌, List, [], ◌∷◌, codes, Option, Some, None}
 use Rattle.sys_base.specs.declared.key.Key.TheVariants as K
 use Rattle.sys_base.specs.declared.kinds.Dir.{Dir}
@@ -22,7 +23,7 @@ use Rattle.cell_tree.specs.declared.statement.Act.TheViews.{roll-Stmt}
 use Rattle.cell_tree.specs.declared.statement.Stmt.{Stmt}
 use Rattle.cell_parser.specs.Lexeme.{Word, Named, Numeral, Keyword, Marked, Lexeme, At}
 
--- what a word does behind an operand: the operator that it is, the bracket of an index, or none of these
+-- what a word does after an operand: the operator that it is, the bracket of an index, or none of these
 pub data Class : Type 0 where
   Product : Op → Class
   Additive : Op → Class
@@ -79,7 +80,8 @@ pub data ReadsExpr : Level → Expr → List Lexeme → List Lexeme → Type 0 w
   -- atom = name
   named : {l : ℕ} {n : List ℕ} {us : List Lexeme} → ReadsExpr Atom (E.Named n) (At l (Named n) ∷ us) us
   -- atom = name "[" expr "]"
-  element : {l k j : ℕ} {n : List ℕ} {e : Expr} {ts us : List Lexeme} → ReadsExpr Whole e ts (At j (Marked M.CloseBracket) ∷ us)
+  element : {l k j : ℕ} {n : List ℕ} {e : Expr} {ts us : List Lexeme}
+      → ReadsExpr Whole e ts (At j (Marked M.CloseBracket) ∷ us)
       → ReadsExpr Atom (E.At n e) (At l (Named n) ∷ At k (Marked M.OpenBracket) ∷ ts) us
   -- atom = "(" expr ")"
   parens : {l j : ℕ} {e : Expr} {ts us : List Lexeme} → ReadsExpr Whole e ts (At j (Marked M.CloseParen) ∷ us)
@@ -93,7 +95,8 @@ mutual
   -- The words read to a statement.
   pub data ReadsStmt : Stmt → List Lexeme → List Lexeme → Type 0 where
     -- name "=" expr ";"
-    set : {l k j : ℕ} {n : List ℕ} {e : Expr} {ts us : List Lexeme} → ReadsExpr Whole e ts (At j (Marked M.Semicolon) ∷ us)
+    set : {l k j : ℕ} {n : List ℕ} {e : Expr} {ts us : List Lexeme}
+        → ReadsExpr Whole e ts (At j (Marked M.Semicolon) ∷ us)
         → ReadsStmt (on_line l (A.Set n e)) (At l (Named n) ∷ At k (Marked M.Assign) ∷ ts) us
     -- name "[" expr "]" "=" expr ";"
     set_at : {l k j i h : ℕ} {n : List ℕ} {e f : Expr} {ts us vs : List Lexeme}
@@ -101,7 +104,8 @@ mutual
         → ReadsExpr Whole f us (At h (Marked M.Semicolon) ∷ vs)
         → ReadsStmt (on_line l (A.SetAt n e f)) (At l (Named n) ∷ At k (Marked M.OpenBracket) ∷ ts) vs
     -- "write" name expr ";"
-    write : {l k j : ℕ} {m : List ℕ} {e : Expr} {ts us : List Lexeme} → ReadsExpr Whole e ts (At j (Marked M.Semicolon) ∷ us)
+    write : {l k j : ℕ} {m : List ℕ} {e : Expr} {ts us : List Lexeme}
+        → ReadsExpr Whole e ts (At j (Marked M.Semicolon) ∷ us)
         → ReadsStmt (on_line l (A.Write m e)) (At l (Keyword K.Write) ∷ At k (Named m) ∷ ts) us
     -- "read" name name ";"
     read : {l k j i : ℕ} {m n : List ℕ} {us : List Lexeme}
@@ -113,7 +117,8 @@ mutual
     emit : {l j : ℕ} {e : Expr} {ts us : List Lexeme} → ReadsExpr Whole e ts (At j (Marked M.Semicolon) ∷ us)
         → ReadsStmt (on_line l (A.Emit e)) (At l (Keyword K.Emit) ∷ ts) us
     -- "for" name number "{" statement* "}"
-    loop : {l k j i h n : ℕ} {c : List ℕ} {b : List Stmt} {ts us : List Lexeme} → ReadsBody b ts (At h (Marked M.CloseBrace) ∷ us)
+    loop : {l k j i h n : ℕ} {c : List ℕ} {b : List Stmt} {ts us : List Lexeme}
+        → ReadsBody b ts (At h (Marked M.CloseBrace) ∷ us)
         → ReadsStmt (on_line l (A.For c n b)) (At l (Keyword K.For) ∷ At k (Named c) ∷ At j (Numeral n) ∷ At i (Marked M.OpenBrace) ∷ ts) us
     -- "if" expr "{" statement* "}" "else" "{" statement* "}"
     choice : {l k j i h g : ℕ} {e : Expr} {b c : List Stmt} {ts us vs ws : List Lexeme}
@@ -127,10 +132,12 @@ mutual
     -- no statement
     none : {us : List Lexeme} → ReadsBody [] us us
     -- a statement and statements
-    more : {s : Stmt} {b : List Stmt} {ts us vs : List Lexeme} → ReadsStmt s ts us → ReadsBody b us vs → ReadsBody (s ∷ b) ts vs
+    more : {s : Stmt} {b : List Stmt} {ts us vs : List Lexeme} → ReadsStmt s ts us → ReadsBody b us vs
+        → ReadsBody (s ∷ b) ts vs
 
 -- The words read to a list, each of whose items words read to.
-pub data Star {A : Type 0} (R : A → List Lexeme → List Lexeme → Type 0) : List A → List Lexeme → List Lexeme → Type 0 where
+pub data Star {A : Type 0} (R : A → List Lexeme → List Lexeme → Type 0) : List A → List Lexeme → List Lexeme
+    → Type 0 where
   -- no item
   done : {us : List Lexeme} → Star R [] us us
   -- an item and items
@@ -189,21 +196,24 @@ pub data ReadsLength : Option ℕ → List Lexeme → List Lexeme → Type 0 whe
 -- The words read to a `var` line.
 pub data ReadsVar : VarDecl → List Lexeme → List Lexeme → Type 0 where
   -- "var" name ("[" number "]")? ";"
-  variable : {l k j : ℕ} {n : List ℕ} {o : Option ℕ} {ts us : List Lexeme} → ReadsLength o ts (At j (Marked M.Semicolon) ∷ us)
+  variable : {l k j : ℕ} {n : List ℕ} {o : Option ℕ} {ts us : List Lexeme}
+      → ReadsLength o ts (At j (Marked M.Semicolon) ∷ us)
       → ReadsVar (record { name = n; length = o; line = l }) (At l (Keyword K.Var) ∷ At k (Named n) ∷ ts) us
 
 -- The words read to a cell.
 pub data ReadsCell : CellDecl → List Lexeme → List Lexeme → Type 0 where
   -- "cell" place "{" vardecl* statement* "}"
   cell : {l k j : ℕ} {p : Place} {xs : List VarDecl} {b : List Stmt} {ts us vs ws : List Lexeme}
-      → ReadsPlace p ts (At k (Marked M.OpenBrace) ∷ us) → Star ReadsVar xs us vs → ReadsBody b vs (At j (Marked M.CloseBrace) ∷ ws)
+      → ReadsPlace p ts (At k (Marked M.OpenBrace) ∷ us) → Star ReadsVar xs us vs
+      → ReadsBody b vs (At j (Marked M.CloseBrace) ∷ ws)
       → ReadsCell (record { place = p; vars = xs; body = b; line = l }) (At l (Keyword K.Cell) ∷ ts) ws
 
--- The words are those of a source, with nothing behind them.
+-- The words are those of a source, with nothing after them.
 pub data Reads : List Lexeme → Source → Type 0 where
   -- "array" number "x" number ";" "queues" number ";" linkdecl* message* celldecl*
   program : {l k j i h g f e r c q : ℕ} {x : List ℕ} {links : List LinkDecl} {messages : List MessageDecl} {cells : List CellDecl}
-      {ts us vs : List Lexeme} → x ≡ codes "x" → Star ReadsLink links ts us → Star ReadsMessage messages us vs → Star ReadsCell cells vs []
+      {ts us vs : List Lexeme} → x ≡ codes "x" → Star ReadsLink links ts us → Star ReadsMessage messages us vs
+      → Star ReadsCell cells vs []
       → Reads
       (At l (Keyword K.Array) ∷ At k (Numeral r) ∷ At j (Named x) ∷ At i (Numeral c) ∷ At h (Marked M.Semicolon)
       ∷ At g (Keyword K.Queues) ∷ At f (Numeral q) ∷ At e (Marked M.Semicolon) ∷ ts)

@@ -1,10 +1,7 @@
-pub mod Declaring
 pub mod FirstWrong
 pub mod Grammar
+pub mod Inner
 pub mod Lexeme
 pub mod Limits
-pub mod Machine
 pub mod Printed
-pub mod Reading
 pub mod Refusal
-pub mod Told

@@ -2,6 +2,7 @@
 --
 -- A piece is a longest run of tokens without `;`, `{` and `}`.
 use Rattle.std.specs.Prelude.{ℕ, ◌≡◌, ◌+◌, ◌-◌, ◌<◌, Bool, true, false, List, [], ◌∷◌, take, reverse, slice_get, MatchOption, if◌then◌else◌}
+use Rattle.cell_lexer.specs.declared.limits.TheConstants.{PIECE_TOKENS, OPEN_BRACES}
 use Rattle.cell_lexer.specs.declared.token.Mark.TheVariants as M
 use Rattle.cell_lexer.specs.declared.token.Sort.{Sort}
 use Rattle.cell_lexer.specs.declared.token.Sort.TheVariants as S
@@ -25,30 +26,31 @@ unparted (t ∷ ts) = if parts t.sort then 0 else (1 + unparted ts)
 abbrev pub in_piece : List Token → ℕ
 in_piece ts = unparted (reverse ts)
 
--- how many they are behind one more token, where there are so many before it
-abbrev pub piece_behind : Sort → ℕ → ℕ
-piece_behind sort n = if parts sort then 0 else (1 + n)
+-- how many they are after one more token, where there are this many before it
+abbrev pub piece_after : Sort → ℕ → ℕ
+piece_after sort n = if parts sort then 0 else (1 + n)
 
--- the open braces behind a token, where so many are open before it: a closing one where none is open counts for nothing
-abbrev pub open_behind : Sort → ℕ → ℕ
-open_behind (S.Mark M.OpenBrace) n = n + 1
-open_behind (S.Mark M.CloseBrace) n = n - 1
-open_behind _ n = n
+-- the open braces after a token, where this many are open before it: a closing one where none is open counts for
+-- nothing
+abbrev pub braces_after : Sort → ℕ → ℕ
+braces_after (S.Mark M.OpenBrace) n = n + 1
+braces_after (S.Mark M.CloseBrace) n = n - 1
+braces_after _ n = n
 
--- the open braces behind tokens, the last of which comes first
+-- the open braces after tokens, the last of which comes first
 abbrev pub open_back : List Token → ℕ
 open_back [] = 0
-open_back (t ∷ before) = open_behind t.sort (open_back before)
+open_back (t ∷ before) = braces_after t.sort (open_back before)
 
--- the open braces behind tokens
+-- the open braces after tokens
 abbrev pub open_in : List Token → ℕ
 open_in ts = open_back (reverse ts)
 
--- The token is the 257th of its piece, or an opening brace where 17 are open, and is refused so: so many tokens of its piece stand
--- before it, and so many braces are open.
+-- The token is one too many in its piece, or an opening brace where the most braces are open, and is refused so: this
+-- many tokens of its piece stand before it, and this many braces are open.
 abbrev pub Over : ℕ → ℕ → Token → ParseError → Type 0
-Over piece open_braces t (E.LongPiece line) = (line ≡ t.line) × (parts t.sort ≡ false) × (piece ≡ 256)
-Over piece open_braces t (E.Braces line) = (line ≡ t.line) × (t.sort ≡ S.Mark M.OpenBrace) × (open_braces ≡ 17)
+Over piece open_braces t (E.LongPiece line) = (line ≡ t.line) × (parts t.sort ≡ false) × (piece ≡ PIECE_TOKENS)
+Over piece open_braces t (E.Braces line) = (line ≡ t.line) × (t.sort ≡ S.Mark M.OpenBrace) × (open_braces ≡ OPEN_BRACES)
 Over piece open_braces t _ = ⊥
 
 -- The token at a place breaks a limit, and is refused so.

@@ -12,7 +12,7 @@ use Rattle.cell_tree.specs.declared.statement.Act.TheVariants as A
 use Rattle.cell_tree.specs.declared.statement.Stmt.{Stmt}
 use Rattle.cell_parser.specs.Grammar.{on_line}
 use Rattle.cell_parser.specs.Lexeme.{Word, Lexeme, At}
-use Rattle.cell_parser.specs.Told.{told, told_word}
+use Rattle.cell_parser.specs.Inner.Told.{told, told_word}
 
 -- the words of the canonical text of a source
 abbrev pub spoken : Source → List Word

@@ -13,7 +13,8 @@ abbrev pub HasPlace : List ℕ → Option Token → ℕ → ℕ → Type 0
 HasPlace text (Some t) line column = (line ≡ t.line) × (column ≡ t.column)
 HasPlace text None line column = (line ≡ line_at text (length text)) × (column ≡ column_at text (length text))
 
--- No token breaks a limit, and the first one that can't stand where it stands, or the end, has this line and this column.
+-- No token breaks a limit, and the first one that can't stand where it stands, or the end, has this line and this
+-- column.
 pub record WrongAt (text : List ℕ) (ts : List Token) (line column : ℕ) : Type 0 where
   pub kept : KeepLimits ts
   pub at : ℕ

@@ -3,13 +3,13 @@ ghost use Rattle.sys_base.specs.Name.{IsName};
 ghost use Rattle.sys_base.specs.declared.key.Key.{Key};
 ghost use Rattle.cell_lexer.specs.declared.token.Mark.{Mark};
 ghost use Rattle.cell_parser.specs.Lexeme.{Named, Numeral, Keyword, Marked, At, lexemes};
-ghost use Rattle.cell_parser.specs.Machine.{dir_of, ExpectName, ExpectNumber, ExpectKey, ExpectDir};
-ghost use Rattle.cell_parser.specs.Reading.{AreTokens, Begins, Lacks, IsRead, IsStuck, Takes, Misses};
+ghost use Rattle.cell_parser.specs.Inner.Machine.{dir_of, ExpectName, ExpectNumber, ExpectKey, ExpectDir};
+ghost use Rattle.cell_parser.specs.Inner.Reading.{AreTokens, Begins, Lacks, IsRead, IsStuck, Takes, Misses};
 
 use crate::fault::Fault;
-use crate::names::Names;
 use cell_lexer::{Key, Mark, Sort, Token};
-use sys_base::{Dir, Name, Op};
+use std::alloc::Global;
+use sys_base::{Dir, Name};
 
 /// The fault that the first of these tokens is, or the end where there is none.
 pub(crate) fn unexpected(tokens: &[Token]) -> Fault
@@ -18,8 +18,8 @@ pub(crate) fn unexpected(tokens: &[Token]) -> Fault
     Fault::Unexpected { left: tokens.len() }
 }
 
-/// The first token where it is a mark, and the tokens behind it.
-#[tactic(auto, unfolding(crate::specs::Reading::AreTokens))]
+/// The first token where it is a mark, and the tokens after it.
+#[tactic(auto, unfolding(crate::specs::Inner::Reading::AreTokens))]
 pub(crate) fn next_mark(tokens: &[Token]) -> Option<(Mark, &[Token])>
     ensures some { IfSome result (λ r. (text : List ℕ) → Begins text (Marked r.0) tokens.now r.1.now) }
     ensures none { IfNone result ((text : List ℕ) (m : Mark) → Lacks text (Marked m) tokens.now) }
@@ -33,7 +33,7 @@ pub(crate) fn next_mark(tokens: &[Token]) -> Option<(Mark, &[Token])>
     }
 }
 
-/// The tokens behind this mark; `None` exactly where it does not come first.
+/// The tokens after this mark; `None` exactly where it does not come first.
 pub(crate) fn after_mark(mark: Mark, tokens: &[Token]) -> Option<&[Token]>
     ensures some { IfSome result (λ rest. (text : List ℕ) → Begins text (Marked mark) tokens.now rest.now) }
     ensures none { IfNone result ((text : List ℕ) → Lacks text (Marked mark) tokens.now) }
@@ -44,7 +44,7 @@ pub(crate) fn after_mark(mark: Mark, tokens: &[Token]) -> Option<&[Token]>
     if found == mark { Some(rest) } else { None }
 }
 
-/// The tokens behind this mark, which has to come first.
+/// The tokens after this mark, which has to come first.
 pub(crate) fn expect(mark: Mark, tokens: &[Token]) -> Result<&[Token], Fault>
     ensures read { IfOk result (λ rest. (text : List ℕ) → Takes text (Marked mark) tokens.now rest.now) }
     ensures wrong { IfErr result (λ e. (text : List ℕ) → Misses text (Marked mark) tokens.now e) }
@@ -57,10 +57,11 @@ pub(crate) fn expect(mark: Mark, tokens: &[Token]) -> Result<&[Token], Fault>
     }
 }
 
-/// The first token where it is a keyword, with its line, and the tokens behind it.
-#[tactic(auto, unfolding(crate::specs::Reading::AreTokens))]
+/// The first token where it is a keyword, with its line, and the tokens after it.
+#[tactic(auto, unfolding(crate::specs::Inner::Reading::AreTokens))]
 pub(crate) fn next_key(tokens: &[Token]) -> Option<(Key, u32, &[Token])>
-    ensures some { IfSome result (λ r. (text : List ℕ) → lexemes text tokens.now ≡ At r.1 (Keyword r.0) ∷ lexemes text r.2.now) }
+    ensures some { IfSome result (λ r. (text : List ℕ) → lexemes text tokens.now
+        ≡ At r.1 (Keyword r.0) ∷ lexemes text r.2.now) }
     ensures none { IfNone result ((text : List ℕ) (key : Key) → Lacks text (Keyword key) tokens.now) }
     ensures shorter { IfSome result (λ r. length r.2.now < length tokens.now) }
     ensures kept { IfSome result (λ r. (text : List ℕ) → AreTokens text tokens.now → AreTokens text r.2.now) }
@@ -72,9 +73,10 @@ pub(crate) fn next_key(tokens: &[Token]) -> Option<(Key, u32, &[Token])>
     }
 }
 
-/// The line of this keyword and the tokens behind it; `None` exactly where it does not come first.
+/// The line of this keyword and the tokens after it; `None` exactly where it does not come first.
 pub(crate) fn after_key(key: Key, tokens: &[Token]) -> Option<(u32, &[Token])>
-    ensures some { IfSome result (λ r. (text : List ℕ) → lexemes text tokens.now ≡ At r.0 (Keyword key) ∷ lexemes text r.1.now) }
+    ensures some { IfSome result (λ r. (text : List ℕ) → lexemes text tokens.now
+        ≡ At r.0 (Keyword key) ∷ lexemes text r.1.now) }
     ensures none { IfNone result ((text : List ℕ) → Lacks text (Keyword key) tokens.now) }
     ensures shorter { IfSome result (λ r. length r.1.now < length tokens.now) }
     ensures kept { IfSome result (λ r. (text : List ℕ) → AreTokens text tokens.now → AreTokens text r.1.now) }
@@ -87,7 +89,7 @@ pub(crate) fn after_key(key: Key, tokens: &[Token]) -> Option<(u32, &[Token])>
     }
 }
 
-/// The line of this keyword, which has to come first, and the tokens behind it.
+/// The line of this keyword, which has to come first, and the tokens after it.
 pub(crate) fn keyword(key: Key, tokens: &[Token]) -> Result<(u32, &[Token]), Fault>
     ensures read { IfOk result (λ r. (text : List ℕ) → IsRead text (λ k. ExpectKey key k) tokens.now r.0 r.1.now) }
     ensures wrong { IfErr result (λ e. (text : List ℕ) → IsStuck text (λ k. ExpectKey key k) tokens.now e) }
@@ -100,7 +102,7 @@ pub(crate) fn keyword(key: Key, tokens: &[Token]) -> Result<(u32, &[Token]), Fau
     }
 }
 
-/// The tokens behind this keyword, which has to come first.
+/// The tokens after this keyword, which has to come first.
 pub(crate) fn expect_key(key: Key, tokens: &[Token]) -> Result<&[Token], Fault>
     ensures read { IfOk result (λ rest. (text : List ℕ) → Takes text (Keyword key) tokens.now rest.now) }
     ensures wrong { IfErr result (λ e. (text : List ℕ) → Misses text (Keyword key) tokens.now e) }
@@ -113,8 +115,8 @@ pub(crate) fn expect_key(key: Key, tokens: &[Token]) -> Result<&[Token], Fault>
     }
 }
 
-/// The value of the first token where it is a number, and the tokens behind it.
-#[tactic(auto, unfolding(crate::specs::Reading::AreTokens))]
+/// The value of the first token where it is a number, and the tokens after it.
+#[tactic(auto, unfolding(crate::specs::Inner::Reading::AreTokens))]
 pub(crate) fn next_number(tokens: &[Token]) -> Option<(u64, &[Token])>
     ensures some { IfSome result (λ r. (text : List ℕ) → Begins text (Numeral r.0) tokens.now r.1.now) }
     ensures none { IfNone result ((text : List ℕ) (n : ℕ) → Lacks text (Numeral n) tokens.now) }
@@ -128,7 +130,7 @@ pub(crate) fn next_number(tokens: &[Token]) -> Option<(u64, &[Token])>
     }
 }
 
-/// A number that has to come first, and the tokens behind it.
+/// A number that has to come first, and the tokens after it.
 pub(crate) fn number(tokens: &[Token]) -> Result<(u64, &[Token]), Fault>
     ensures read { IfOk result (λ r. (text : List ℕ) → IsRead text ExpectNumber tokens.now r.0 r.1.now) }
     ensures wrong { IfErr result (λ e. (text : List ℕ) → IsStuck text ExpectNumber tokens.now e) }
@@ -141,14 +143,15 @@ pub(crate) fn number(tokens: &[Token]) -> Result<(u64, &[Token]), Fault>
     }
 }
 
-/// The bytes of the first token where it is a name, with its line, and the tokens behind it.
-#[tactic(auto, unfolding(crate::specs::Reading::AreTokens))]
+/// The bytes of the first token where it is a name, with its line, and the tokens after it.
+#[tactic(auto, unfolding(crate::specs::Inner::Reading::AreTokens))]
 pub(crate) fn next_name<'a, 'b>(
     text: &'b [u8],
     tokens: &'a [Token],
 ) -> Option<(&'b [u8], u32, &'a [Token])>
     requires { AreTokens text.now tokens.now }
-    ensures some { IfSome result (λ r. lexemes text.now tokens.now ≡ At r.1 (Named r.0.now) ∷ lexemes text.now r.2.now) }
+    ensures some { IfSome result (λ r. lexemes text.now tokens.now
+        ≡ At r.1 (Named r.0.now) ∷ lexemes text.now r.2.now) }
     ensures name { IfSome result (λ r. IsName r.0.now) }
     ensures none { IfNone result ((n : List ℕ) → Lacks text.now (Named n) tokens.now) }
     ensures shorter { IfSome result (λ r. length r.2.now < length tokens.now) }
@@ -164,9 +167,9 @@ pub(crate) fn next_name<'a, 'b>(
     }
 }
 
-/// A name that has to come first, and the tokens behind it.
+/// A name that has to come first, and the tokens after it.
 pub(crate) fn name<'a>(
-    names: &Names,
+    alloc: Global,
     text: &[u8],
     tokens: &'a [Token],
 ) -> Result<(Name, &'a [Token]), Fault>
@@ -177,12 +180,24 @@ pub(crate) fn name<'a>(
     ensures kept { IfOk result (λ r. AreTokens text.now r.1.now) }
 {
     match next_name(text, tokens) {
-        Some((bytes, _, rest)) => Ok((names.name(bytes)?, rest)),
+        Some((bytes, _, rest)) => Ok((named(alloc, bytes)?, rest)),
         None => Err(unexpected(tokens)),
     }
 }
 
-/// The word `x`, which has to come first, and the tokens behind it.
+/// The name with these bytes.
+pub(crate) fn named(alloc: Global, bytes: &[u8]) -> Result<Name, Fault>
+    requires { IsName bytes.now }
+    ensures name { IfOk result (λ n. n ≡ bytes.now) }
+    ensures wrong { IfErr result (λ e. e ≡ Fault.Memory) }
+{
+    let Some(name) = Name::new(alloc, bytes)? else {
+        unreachable!()
+    };
+    Ok(name)
+}
+
+/// The word `x`, which has to come first, and the tokens after it.
 pub(crate) fn expect_x<'a>(text: &[u8], tokens: &'a [Token]) -> Result<&'a [Token], Fault>
     requires { AreTokens text.now tokens.now }
     ensures read { IfOk result (λ rest. Takes text.now (Named (codes "x")) tokens.now rest.now) }
@@ -224,7 +239,7 @@ pub(crate) fn dir_of(bytes: &[u8]) -> Option<Dir>
     }
 }
 
-/// A direction that has to come first, and the tokens behind it.
+/// A direction that has to come first, and the tokens after it.
 pub(crate) fn direction<'a>(text: &[u8], tokens: &'a [Token]) -> Result<(Dir, &'a [Token]), Fault>
     requires { AreTokens text.now tokens.now }
     ensures read { IfOk result (λ r. IsRead text.now ExpectDir tokens.now r.0 r.1.now) }

@@ -1,21 +1,21 @@
 ghost use Rattle.std.specs.Prelude.{[], ◌<◌, ◌≤◌, length, IfOk, IfErr};
 ghost use Rattle.cell_tree.specs.declared.source.Source.{Source};
 ghost use Rattle.cell_tree.specs.declared.source.CellDecl.{CellDecl};
-ghost use Rattle.cell_parser.specs.Declaring.{Comes, Halts, with_vars};
-ghost use Rattle.cell_parser.specs.Machine as Mach;
-ghost use Rattle.cell_parser.specs.Machine.{Links, Messages, Cells, Vars, Body, InCell, with_link, with_message, with_cell, with_var};
-ghost use Rattle.cell_parser.specs.Reading.{AreTokens};
+ghost use Rattle.cell_parser.specs.Inner.Declaring.{Comes, Halts, with_vars};
+ghost use Rattle.cell_parser.specs.Inner.Machine as Mach;
+ghost use Rattle.cell_parser.specs.Inner.Machine.{Links, Messages, Cells, Vars, Body, InCell, with_link, with_message, with_cell, with_var};
+ghost use Rattle.cell_parser.specs.Inner.Reading.{AreTokens};
 
 use crate::cursor::{after_key, direction, expect, expect_key, name};
 use crate::fault::Fault;
-use crate::names::Names;
 use crate::parts::{label, length, place, route, setting};
 use crate::statement::body;
 use cell_lexer::{Key, Mark, Token};
 use cell_tree::{CellDecl, LinkDecl, MessageDecl, VarDecl};
+use std::alloc::Global;
 use sys_base::Items;
 
-/// A `link` line behind its first word, which stands on this line of the text, and the tokens behind it.
+/// A `link` line after its first word, which stands on this line of the text, and the tokens after it.
 pub(crate) fn link<'a>(
     text: &[u8],
     tokens: &'a [Token],
@@ -41,9 +41,9 @@ pub(crate) fn link<'a>(
     Ok((link, rest))
 }
 
-/// A `message` line behind its first word, which stands on this line of the text, and the tokens behind it.
+/// A `message` line after its first word, which stands on this line of the text, and the tokens after it.
 pub(crate) fn message<'a>(
-    names: &Names,
+    alloc: Global,
     text: &[u8],
     tokens: &'a [Token],
     line: u32,
@@ -55,12 +55,12 @@ pub(crate) fn message<'a>(
     ensures shorter { IfOk result (λ r. length r.1.now < length tokens.now) }
     ensures kept { IfOk result (λ r. AreTokens text.now r.1.now) }
 {
-    let (name, rest) = name(names, text, tokens)?;
+    let (name, rest) = name(alloc, text, tokens)?;
     let rest = expect_key(Key::From, rest)?;
     let (from, rest) = place(rest)?;
     let rest = expect_key(Key::To, rest)?;
     let (to, rest) = place(rest)?;
-    let (route, rest) = route(names.alloc, text, rest)?;
+    let (route, rest) = route(alloc, text, rest)?;
     let (label, rest) = label(rest)?;
     let message = MessageDecl {
         name,
@@ -73,51 +73,54 @@ pub(crate) fn message<'a>(
     Ok((message, rest))
 }
 
-/// A `var` line behind its first word, which stands on this line of the text, and the tokens behind it.
+/// A `var` line after its first word, which stands on this line of the text, and the tokens after it.
 fn variable<'a>(
-    names: &Names,
+    alloc: Global,
     text: &[u8],
     tokens: &'a [Token],
     line: u32,
 ) -> Result<(VarDecl, &'a [Token]), Fault>
     requires { AreTokens text.now tokens.now }
     ensures read { IfOk result
-        (λ r. (s : Source) (c : CellDecl) → Comes text.now (Mach.variable line s c) tokens.now (Vars s (with_var c r.0)) r.1.now) }
-    ensures wrong { IfErr result (λ e. (s : Source) (c : CellDecl) → Halts text.now (Mach.variable line s c) tokens.now e) }
+        (λ r. (s : Source) (c : CellDecl)
+        → Comes text.now (Mach.variable line s c) tokens.now (Vars s (with_var c r.0)) r.1.now) }
+    ensures wrong { IfErr result (λ e. (s : Source) (c : CellDecl)
+        → Halts text.now (Mach.variable line s c) tokens.now e) }
     ensures shorter { IfOk result (λ r. length r.1.now < length tokens.now) }
     ensures kept { IfOk result (λ r. AreTokens text.now r.1.now) }
 {
-    let (name, rest) = name(names, text, tokens)?;
+    let (name, rest) = name(alloc, text, tokens)?;
     let (length, rest) = length(rest)?;
     Ok((VarDecl { name, length, line }, rest))
 }
 
-/// The `var` lines that come first, and the tokens behind them.
+/// The `var` lines that come first, and the tokens after them.
 fn variables<'a>(
-    names: &Names,
+    alloc: Global,
     text: &[u8],
     tokens: &'a [Token],
 ) -> Result<(Items<VarDecl>, &'a [Token]), Fault>
     requires { AreTokens text.now tokens.now }
     ensures read { IfOk result
-        (λ r. (s : Source) (c : CellDecl) → Comes text.now (Vars s c) tokens.now (Body [] (InCell s (with_vars c r.0))) r.1.now) }
+        (λ r. (s : Source) (c : CellDecl)
+        → Comes text.now (Vars s c) tokens.now (Body [] (InCell s (with_vars c r.0))) r.1.now) }
     ensures wrong { IfErr result (λ e. (s : Source) (c : CellDecl) → Halts text.now (Vars s c) tokens.now e) }
     ensures shorter { IfOk result (λ r. length r.1.now ≤ length tokens.now) }
     ensures kept { IfOk result (λ r. AreTokens text.now r.1.now) }
 {
-    let mut vars = Items::new(names.alloc);
+    let mut vars = Items::new(alloc);
     let mut rest = tokens;
     'each: while let Some((line, after)) = after_key(Key::Var, rest) {
-        let (var, next) = variable(names, text, after, line)?;
+        let (var, next) = variable(alloc, text, after, line)?;
         vars.push(var)?;
         rest = next;
     }
     Ok((vars, rest))
 }
 
-/// A cell behind its first word, which stands on this line of the text, and the tokens behind it.
+/// A cell after its first word, which stands on this line of the text, and the tokens after it.
 pub(crate) fn cell<'a>(
-    names: &Names,
+    alloc: Global,
     text: &[u8],
     tokens: &'a [Token],
     line: u32,
@@ -131,8 +134,8 @@ pub(crate) fn cell<'a>(
 {
     let (place, rest) = place(tokens)?;
     let rest = expect(Mark::OpenBrace, rest)?;
-    let (vars, rest) = variables(names, text, rest)?;
-    let (body, rest) = body(names, text, rest)?;
+    let (vars, rest) = variables(alloc, text, rest)?;
+    let (body, rest) = body(alloc, text, rest)?;
     let cell = CellDecl {
         place,
         vars,

@@ -8,10 +8,10 @@ use thiserror::Error;
 #[derive(Clone, Copy, Debug, PartialEq, Eq, Error)]
 pub enum ParseError {
     /// More than 256 tokens without `;`, `{` or `}` (E06).
-    #[error("line {line}: more than 256 tokens without ; {{ or }}")]
+    #[error("line {line}: too many tokens without ; {{ or }}")]
     LongPiece { line: u32 },
     /// More than 17 open braces (E07).
-    #[error("line {line}: more than 17 braces are open")]
+    #[error("line {line}: too many braces are open")]
     Braces { line: u32 },
     /// The first token that can't stand where it stands, or the end of the text (E02).
     #[error("line {line} column {column}: not expected here")]

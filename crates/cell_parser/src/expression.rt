@@ -1,20 +1,20 @@
 ghost use Rattle.std.specs.Prelude.{◌≡◌, ℕ, ◌<◌, ◌≤◌, length, IfOk, IfErr};
-ghost use Rattle.sys_base.specs.Name.{IsName};
-ghost use Rattle.cell_parser.specs.Machine.{Called, Want, WantAtom};
-ghost use Rattle.cell_parser.specs.Reading.{AreTokens, IsOperand, NoOperand, IsWhole, NoWhole, a_term, a_sum, a_whole};
+ghost use Rattle.cell_parser.specs.Inner.Machine.{Called, Want, WantAtom};
+ghost use Rattle.cell_parser.specs.Inner.Reading.{AreTokens, IsOperand, NoOperand, IsWhole, NoWhole, a_term, a_sum, a_whole};
 
-use crate::cursor::{after_mark, expect, next_name, next_number, unexpected};
+use crate::cursor::{after_mark, expect, named, next_name, next_number, unexpected};
 use crate::fault::Fault;
-use crate::names::Names;
 use crate::operator::{additive, comparison, index, minus, product};
 use cell_lexer::{Mark, Token};
 use cell_tree::Expr;
+use sqlite_items::Boxed;
 use std::alloc::Global;
-use sys_base::{Name, Op, Shared};
+use sys_base::{Name, Op};
 
-/// A whole expression with this mark behind it, and the tokens behind that.
+/// A whole expression with this mark after it, and the tokens after that.
+#[cycle(expression)]
 pub(crate) fn expression<'a>(
-    names: &Names,
+    alloc: Global,
     end: Mark,
     text: &[u8],
     tokens: &'a [Token],
@@ -25,103 +25,69 @@ pub(crate) fn expression<'a>(
     ensures shorter { IfOk result (λ r. length r.1.now < length tokens.now) }
     ensures kept { IfOk result (λ r. AreTokens text.now r.1.now) }
 {
-    let (value, rest) = ended(names, end, text, tokens)?;
-    Ok((taken(value)?, rest))
-}
-
-/// A whole expression with this mark behind it, and the tokens behind that.
-#[cycle(expression)]
-fn ended<'a>(
-    names: &Names,
-    end: Mark,
-    text: &[u8],
-    tokens: &'a [Token],
-) -> Result<(Shared<Expr>, &'a [Token]), Fault>
-    requires { AreTokens text.now tokens.now }
-    ensures read { IfOk result (λ r. IsWhole text.now end tokens.now r.0 r.1.now) }
-    ensures wrong { IfErr result (λ e. NoWhole text.now end tokens.now e) }
-    ensures shorter { IfOk result (λ r. length r.1.now < length tokens.now) }
-    ensures kept { IfOk result (λ r. AreTokens text.now r.1.now) }
-{
-    let (value, rest) = whole(names, text, tokens)?;
+    let (value, rest) = whole(alloc, text, tokens)?;
     let rest = expect(end, rest)?;
     Ok((value, rest))
 }
 
-/// A comparison or a sum, and the tokens behind it.
+/// A comparison or a sum, and the tokens after it.
 #[cycle(expression)]
-fn whole<'a>(
-    names: &Names,
-    text: &[u8],
-    tokens: &'a [Token],
-) -> Result<(Shared<Expr>, &'a [Token]), Fault>
+fn whole<'a>(alloc: Global, text: &[u8], tokens: &'a [Token]) -> Result<(Expr, &'a [Token]), Fault>
     requires { AreTokens text.now tokens.now }
     ensures read { IfOk result (λ r. IsOperand text.now a_whole tokens.now r.0 r.1.now) }
     ensures wrong { IfErr result (λ e. NoOperand text.now a_whole tokens.now e) }
     ensures shorter { IfOk result (λ r. length r.1.now < length tokens.now) }
     ensures kept { IfOk result (λ r. AreTokens text.now r.1.now) }
 {
-    let (left, rest) = sum(names, text, tokens)?;
+    let (left, rest) = sum(alloc, text, tokens)?;
     match comparison(rest) {
         Some((op, after)) => {
-            let (right, next) = sum(names, text, after)?;
-            Ok((binary(names.alloc, op, left, right)?, next))
+            let (right, next) = sum(alloc, text, after)?;
+            Ok((binary(alloc, op, left, right)?, next))
         }
         None => Ok((left, rest)),
     }
 }
 
-/// A sum, and the tokens behind it.
+/// A sum, and the tokens after it.
 #[cycle(expression)]
-fn sum<'a>(
-    names: &Names,
-    text: &[u8],
-    tokens: &'a [Token],
-) -> Result<(Shared<Expr>, &'a [Token]), Fault>
+fn sum<'a>(alloc: Global, text: &[u8], tokens: &'a [Token]) -> Result<(Expr, &'a [Token]), Fault>
     requires { AreTokens text.now tokens.now }
     ensures read { IfOk result (λ r. IsOperand text.now a_sum tokens.now r.0 r.1.now) }
     ensures wrong { IfErr result (λ e. NoOperand text.now a_sum tokens.now e) }
     ensures shorter { IfOk result (λ r. length r.1.now < length tokens.now) }
     ensures kept { IfOk result (λ r. AreTokens text.now r.1.now) }
 {
-    let (mut left, mut rest) = term(names, text, tokens)?;
+    let (mut left, mut rest) = term(alloc, text, tokens)?;
     'each: while let Some((op, after)) = additive(rest) {
-        let (right, next) = term(names, text, after)?;
-        left = binary(names.alloc, op, left, right)?;
+        let (right, next) = term(alloc, text, after)?;
+        left = binary(alloc, op, left, right)?;
         rest = next;
     }
     Ok((left, rest))
 }
 
-/// A term, and the tokens behind it.
+/// A term, and the tokens after it.
 #[cycle(expression)]
-fn term<'a>(
-    names: &Names,
-    text: &[u8],
-    tokens: &'a [Token],
-) -> Result<(Shared<Expr>, &'a [Token]), Fault>
+fn term<'a>(alloc: Global, text: &[u8], tokens: &'a [Token]) -> Result<(Expr, &'a [Token]), Fault>
     requires { AreTokens text.now tokens.now }
     ensures read { IfOk result (λ r. IsOperand text.now a_term tokens.now r.0 r.1.now) }
     ensures wrong { IfErr result (λ e. NoOperand text.now a_term tokens.now e) }
     ensures shorter { IfOk result (λ r. length r.1.now < length tokens.now) }
     ensures kept { IfOk result (λ r. AreTokens text.now r.1.now) }
 {
-    let (mut left, mut rest) = unary(names, text, tokens)?;
+    let (mut left, mut rest) = unary(alloc, text, tokens)?;
     'each: while let Some((op, after)) = product(rest) {
-        let (right, next) = unary(names, text, after)?;
-        left = binary(names.alloc, op, left, right)?;
+        let (right, next) = unary(alloc, text, after)?;
+        left = binary(alloc, op, left, right)?;
         rest = next;
     }
     Ok((left, rest))
 }
 
-/// An operand with a minus or without, and the tokens behind it.
+/// An operand with a minus or without, and the tokens after it.
 #[cycle(expression)]
-fn unary<'a>(
-    names: &Names,
-    text: &[u8],
-    tokens: &'a [Token],
-) -> Result<(Shared<Expr>, &'a [Token]), Fault>
+fn unary<'a>(alloc: Global, text: &[u8], tokens: &'a [Token]) -> Result<(Expr, &'a [Token]), Fault>
     requires { AreTokens text.now tokens.now }
     ensures read { IfOk result (λ r. IsOperand text.now Want tokens.now r.0 r.1.now) }
     ensures wrong { IfErr result (λ e. NoOperand text.now Want tokens.now e) }
@@ -130,20 +96,16 @@ fn unary<'a>(
 {
     match minus(tokens) {
         Some(after) => {
-            let (operand, rest) = atom(names, text, after)?;
-            Ok((negate(names.alloc, operand)?, rest))
+            let (operand, rest) = atom(alloc, text, after)?;
+            Ok((negate(alloc, operand)?, rest))
         }
-        None => atom(names, text, tokens),
+        None => atom(alloc, text, tokens),
     }
 }
 
-/// An operand without a minus, and the tokens behind it.
+/// An operand without a minus, and the tokens after it.
 #[cycle(expression)]
-fn atom<'a>(
-    names: &Names,
-    text: &[u8],
-    tokens: &'a [Token],
-) -> Result<(Shared<Expr>, &'a [Token]), Fault>
+fn atom<'a>(alloc: Global, text: &[u8], tokens: &'a [Token]) -> Result<(Expr, &'a [Token]), Fault>
     requires { AreTokens text.now tokens.now }
     ensures read { IfOk result (λ r. IsOperand text.now WantAtom tokens.now r.0 r.1.now) }
     ensures wrong { IfErr result (λ e. NoOperand text.now WantAtom tokens.now e) }
@@ -151,89 +113,59 @@ fn atom<'a>(
     ensures kept { IfOk result (λ r. AreTokens text.now r.1.now) }
 {
     if let Some((number, rest)) = next_number(tokens) {
-        return Ok((names.number(number)?, rest));
+        return Ok((Expr::Number(number), rest));
     }
     if let Some((bytes, _, rest)) = next_name(text, tokens) {
-        return called(names, text, bytes, rest);
+        let name = named(alloc, bytes)?;
+        return called(alloc, text, name, rest);
     }
     match after_mark(Mark::OpenParen, tokens) {
-        Some(after) => ended(names, Mark::CloseParen, text, after),
+        Some(after) => expression(alloc, Mark::CloseParen, text, after),
         None => Err(unexpected(tokens)),
     }
 }
 
-/// The operand that begins with this name, and the tokens behind it.
+/// The operand that begins with this name, and the tokens after it.
 #[cycle(expression)]
 fn called<'a>(
-    names: &Names,
+    alloc: Global,
     text: &[u8],
-    name: &[u8],
+    name: Name,
     tokens: &'a [Token],
-) -> Result<(Shared<Expr>, &'a [Token]), Fault>
-    requires tokens { AreTokens text.now tokens.now }
-    requires name { IsName name.now }
-    ensures read { IfOk result (λ r. IsOperand text.now (Called name.now) tokens.now r.0 r.1.now) }
-    ensures wrong { IfErr result (λ e. NoOperand text.now (Called name.now) tokens.now e) }
+) -> Result<(Expr, &'a [Token]), Fault>
+    requires { AreTokens text.now tokens.now }
+    ensures read { IfOk result (λ r. IsOperand text.now (Called name) tokens.now r.0 r.1.now) }
+    ensures wrong { IfErr result (λ e. NoOperand text.now (Called name) tokens.now e) }
     ensures shorter { IfOk result (λ r. length r.1.now ≤ length tokens.now) }
     ensures kept { IfOk result (λ r. AreTokens text.now r.1.now) }
 {
     match index(tokens) {
         Some(after) => {
-            let (value, rest) = ended(names, Mark::CloseBracket, text, after)?;
-            let name = names.name(name)?;
-            Ok((element(names.alloc, name, value)?, rest))
+            let (value, rest) = expression(alloc, Mark::CloseBracket, text, after)?;
+            Ok((element(alloc, name, value)?, rest))
         }
-        None => Ok((names.named(name)?, tokens)),
+        None => Ok((Expr::Named(name), tokens)),
     }
 }
 
-/// An expression, taken out of its pointer or, where it is shared, copied.
-fn taken(shared: Shared<Expr>) -> Result<Expr, Fault>
-    ensures same { IfOk result (λ e. e ≡ shared) }
-    ensures wrong { IfErr result (λ e. e ≡ Fault.Memory) }
-{
-    match shared.try_unwrap() {
-        Ok(expr) => Ok(expr),
-        Err(shared) => copy(shared.as_ref()),
-    }
-}
-
-/// An equal expression, which shares the operands.
-fn copy(expr: &Expr) -> Result<Expr, Fault>
-    ensures same { IfOk result (λ e. e ≡ expr.now) }
-    ensures wrong { IfErr result (λ e. e ≡ Fault.Memory) }
-{
-    Ok(match expr {
-        Expr::Number(number) => Expr::Number(*number),
-        Expr::Named(name) => Expr::Named(name.copy()?),
-        Expr::At(name, index) => Expr::At(name.copy()?, index.clone()?),
-        Expr::Negate(operand) => Expr::Negate(operand.clone()?),
-        Expr::Binary(op, left, right) => Expr::Binary(*op, left.clone()?, right.clone()?),
-    })
-}
-
-fn binary(
-    alloc: Global,
-    op: Op,
-    left: Shared<Expr>,
-    right: Shared<Expr>,
-) -> Result<Shared<Expr>, Fault>
+fn binary(alloc: Global, op: Op, left: Expr, right: Expr) -> Result<Expr, Fault>
     ensures built { IfOk result (λ e. e ≡ Expr.Binary op left right) }
     ensures wrong { IfErr result (λ e. e ≡ Fault.Memory) }
 {
-    Ok(Shared::new(alloc, Expr::Binary(op, left, right))?)
+    let left = Boxed::new(alloc, left)?;
+    Ok(Expr::Binary(op, left, Boxed::new(alloc, right)?))
 }
 
-fn negate(alloc: Global, operand: Shared<Expr>) -> Result<Shared<Expr>, Fault>
+fn negate(alloc: Global, operand: Expr) -> Result<Expr, Fault>
     ensures built { IfOk result (λ e. e ≡ Expr.Negate operand) }
     ensures wrong { IfErr result (λ e. e ≡ Fault.Memory) }
 {
-    Ok(Shared::new(alloc, Expr::Negate(operand))?)
+    Ok(Expr::Negate(Boxed::new(alloc, operand)?))
 }
 
-fn element(alloc: Global, name: Name, index: Shared<Expr>) -> Result<Shared<Expr>, Fault>
+fn element(alloc: Global, name: Name, index: Expr) -> Result<Expr, Fault>
     ensures built { IfOk result (λ e. e ≡ Expr.At name index) }
     ensures wrong { IfErr result (λ e. e ≡ Fault.Memory) }
 {
-    Ok(Shared::new(alloc, Expr::At(name, index))?)
+    Ok(Expr::At(name, Boxed::new(alloc, index)?))
 }

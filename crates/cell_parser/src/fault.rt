@@ -9,7 +9,7 @@ use sys_base::Memory;
 pub(crate) enum Fault {
     /// Memory ran out.
     Memory,
-    /// A token cannot stand where so many tokens are left, itself included; 0 where the tokens end too early.
+    /// A token cannot stand where this many tokens are left, itself included; 0 where the tokens end too early.
     Unexpected { left: usize },
 }
 

@@ -8,20 +8,20 @@ ghost use Rattle.cell_parser.specs.Grammar.{Reads};
 ghost use Rattle.cell_parser.specs.Lexeme.{Lexeme, lexemes};
 ghost use Rattle.cell_parser.specs.Limits.{KeepLimits};
 ghost use Rattle.cell_parser.specs.Printed.{spoken, Covers, unlined};
-ghost use Rattle.cell_parser.specs.Told.{told, told_piece};
+ghost use Rattle.cell_parser.specs.Inner.Told.{told, told_piece};
 
 use cell_lexer::{one_outcome, read_back};
 
-/// A law: lexemes that say just the words of a source's canonical text, on any lines, are those of a source that is the same
-/// but for its lines. The words are spelt as the pieces of the canonical text.
+/// A law: lexemes that say just the words of a source's canonical text, on any lines, are those of a source that is
+/// the same but for its lines. The words are spelt as the pieces of the canonical text.
 pub fn printed_is_in_the_grammar()
     ensures spelt { (s : Source) → map told_piece (told s) ≡ canonical_pieces s }
     ensures reads { (s : Source) → s.buffer ≡ 0 → (ts : List Lexeme) → Covers (spoken s) ts []
         → (t : Source) × Reads ts t × (unlined t ≡ unlined s) }
 {}
 
-/// A law: the canonical text of a printable source has tokens, and they are those of a source that is the same but for its
-/// lines.
+/// A law: the canonical text of a printable source has tokens, and they are those of a source that is the same but
+/// for its lines.
 pub fn printed_text_reads_back()
     ensures tokens { (s : Source) → IsPrintable s → (ts : List Token) × TokensOf (canonical s) ts }
     ensures reads { (s : Source) → IsPrintable s → (ts : List Token) → TokensOf (canonical s) ts
@@ -46,7 +46,8 @@ pub fn printed_keeps_limits()
 
 /// A law: a source that was read from the tokens of a text, where they keep the limits, is printable.
 pub fn read_is_printable()
-    ensures { (text : List ℕ) (ts : List Token) (s : Source) → TokensOf text ts → KeepLimits ts → Reads (lexemes text ts) s
+    ensures { (text : List ℕ) (ts : List Token) (s : Source) → TokensOf text ts → KeepLimits ts
+        → Reads (lexemes text ts) s
         → IsPrintable s }
 {
     read_back();

@@ -1,4 +1,4 @@
-ghost use Rattle.std.specs.Prelude.{◌≡◌, ◌-◌, ◌^◌, ◌<◌, ◌≤◌, ◌⊎◌, length, slice_get, IfOk, IfErr, MatchResult};
+ghost use Rattle.std.specs.Prelude.{◌≡◌, ℕ, ◌-◌, ◌^◌, ◌<◌, ◌≤◌, ◌⊎◌, length, slice_get, IfOk, IfErr, MatchResult};
 ghost use Rattle.cell_lexer.specs.Tokens.{TokensOf};
 ghost use Rattle.cell_tree.specs.Printable.{IsPrintable};
 ghost use Rattle.cell_tree.specs.declared.source.Source.{Source};
@@ -6,21 +6,21 @@ ghost use Rattle.cell_parser.specs.declared.error.ParseError.{ParseError};
 ghost use Rattle.cell_parser.specs.Grammar.{Reads};
 ghost use Rattle.cell_parser.specs.Lexeme.{lexemes};
 ghost use Rattle.cell_parser.specs.Limits.{KeepLimits, FirstOver};
-ghost use Rattle.cell_parser.specs.Refusal.{HasPlace, IsRefused};
+ghost use Rattle.cell_parser.specs.Refusal.{HasPlace, IsRefused, WrongAt};
 
 use crate::error::ParseError;
 use crate::fault::Fault;
 use crate::laws_printed::read_is_printable;
 use crate::limits::keep_limits;
 use crate::program::program;
-use cell_lexer::{Position, Token, end_of};
+use cell_lexer::{Position, Token, end_of, few_tokens};
 use cell_tree::Source;
 use std::alloc::Global;
 
 /// The source that the tokens of a text are, where they keep the limits on pieces and braces.
 ///
-/// An error is the first token that breaks a limit (E06, E07); where none does, the first token that can't stand where it stands,
-/// or the end of the text (E02); or `Memory`, which may come for any text. The time is linear.
+/// An error is the first token that breaks a limit (E06, E07); where none does, the first token that can't stand
+/// where it stands, or the end of the text (E02); or `Memory`, which may come for any text. The time is linear.
 pub fn parse(alloc: Global, text: &[u8], tokens: &[Token]) -> Result<Source, ParseError>
     requires short { length text.now < 2 ^ 32 - 1 }
     requires tokens { TokensOf text.now tokens.now }
@@ -35,6 +35,8 @@ pub fn parse(alloc: Global, text: &[u8], tokens: &[Token]) -> Result<Source, Par
         → MatchResult result (λ t. t ≡ s) (λ e. e ≡ ParseError.Memory) }
     ensures only_over { (f : ParseError) → FirstOver tokens.now f
         → MatchResult result (λ _. ⊥) (λ e. (e ≡ f) ⊎ (e ≡ ParseError.Memory)) }
+    ensures only_wrong { (line column : ℕ) → WrongAt text.now tokens.now line column
+        → MatchResult result (λ _. ⊥) (λ e. (e ≡ ParseError.Unexpected line column) ⊎ (e ≡ ParseError.Memory)) }
 {
     read_is_printable();
     limited(alloc, text, tokens)
@@ -47,6 +49,7 @@ fn limited(alloc: Global, text: &[u8], tokens: &[Token]) -> Result<Source, Parse
     ensures read { IfOk result (λ s. Reads (lexemes text.now tokens.now) s × KeepLimits tokens.now) }
     ensures refused { IfErr result (IsRefused text.now tokens.now) }
 {
+    few_tokens();
     keep_limits(tokens)?;
     match program(alloc, text, tokens) {
         Ok(source) => Ok(source),
@@ -61,7 +64,7 @@ fn limited(alloc: Global, text: &[u8], tokens: &[Token]) -> Result<Source, Parse
     }
 }
 
-/// Where the first of the last so many tokens stands, or the end of the text where these are none.
+/// Where the token stands that has this many tokens left from it on, or the end of the text where none is left.
 fn place_of(text: &[u8], tokens: &[Token], left: usize) -> Position
     requires short { length text.now < 2 ^ 32 - 1 }
     requires left { left ≤ length tokens.now }

@@ -1,9 +1,9 @@
 ghost use Rattle.std.specs.Prelude.{◌≡◌, ℕ, ◌<◌, ◌≤◌, List, Option, length, IfOk, IfErr};
 ghost use Rattle.sys_base.specs.declared.kinds.Dir.{Dir};
-ghost use Rattle.cell_parser.specs.Machine.{State, Route, Label, Length};
-ghost use Rattle.cell_parser.specs.Machine as Mach;
-ghost use Rattle.cell_parser.specs.Reading.{AreTokens, IsRead, IsStuck};
-ghost use Rattle.cell_parser.specs.Declaring.{Comes, Halts, first_dir};
+ghost use Rattle.cell_parser.specs.Inner.Machine.{State, Route, Label, Length};
+ghost use Rattle.cell_parser.specs.Inner.Machine as Mach;
+ghost use Rattle.cell_parser.specs.Inner.Reading.{AreTokens, IsRead, IsStuck};
+ghost use Rattle.cell_parser.specs.Inner.Declaring.{Comes, Halts, first_dir};
 
 use crate::cursor::{
     after_key, after_mark, dir_of, direction, expect, next_name, number, unexpected,
@@ -14,7 +14,7 @@ use cell_tree::Place;
 use std::alloc::Global;
 use sys_base::{Dir, Items};
 
-/// A number and a semicolon that have to come first, and the tokens behind them.
+/// A number and a semicolon that have to come first, and the tokens after them.
 pub(crate) fn setting(tokens: &[Token]) -> Result<(u64, &[Token]), Fault>
     ensures read { IfOk result (λ r. (text : List ℕ) → IsRead text (λ k. Mach.setting k) tokens.now r.0 r.1.now) }
     ensures wrong { IfErr result (λ e. (text : List ℕ) → IsStuck text (λ k. Mach.setting k) tokens.now e) }
@@ -26,7 +26,7 @@ pub(crate) fn setting(tokens: &[Token]) -> Result<(u64, &[Token]), Fault>
     Ok((number, rest))
 }
 
-/// A place that has to come first, and the tokens behind it.
+/// A place that has to come first, and the tokens after it.
 pub(crate) fn place(tokens: &[Token]) -> Result<(Place, &[Token]), Fault>
     ensures read { IfOk result (λ r. (text : List ℕ) → IsRead text (λ k. Mach.place k) tokens.now r.0 r.1.now) }
     ensures wrong { IfErr result (λ e. (text : List ℕ) → IsStuck text (λ k. Mach.place k) tokens.now e) }
@@ -39,7 +39,7 @@ pub(crate) fn place(tokens: &[Token]) -> Result<(Place, &[Token]), Fault>
     Ok((Place { row, col }, rest))
 }
 
-/// The route that comes first, or none, and the tokens behind it.
+/// The route that comes first, or none, and the tokens after it.
 pub(crate) fn route<'a>(
     alloc: Global,
     text: &[u8],
@@ -58,7 +58,7 @@ pub(crate) fn route<'a>(
     }
 }
 
-/// The directions of a route, at least one, and the tokens behind them.
+/// The directions of a route, at least one, and the tokens after them.
 fn dirs<'a>(
     alloc: Global,
     text: &[u8],
@@ -66,7 +66,8 @@ fn dirs<'a>(
 ) -> Result<(Items<Dir>, &'a [Token]), Fault>
     requires { AreTokens text.now tokens.now }
     ensures read { IfOk result
-        (λ r. (f : List Dir → Option ℕ → State) → Comes text.now (first_dir f) tokens.now (Label (λ o. f r.0 o)) r.1.now) }
+        (λ r. (f : List Dir → Option ℕ → State)
+        → Comes text.now (first_dir f) tokens.now (Label (λ o. f r.0 o)) r.1.now) }
     ensures wrong { IfErr result (λ e. (f : List Dir → Option ℕ → State) → Halts text.now (first_dir f) tokens.now e) }
     ensures shorter { IfOk result (λ r. length r.1.now ≤ length tokens.now) }
     ensures kept { IfOk result (λ r. AreTokens text.now r.1.now) }
@@ -84,7 +85,7 @@ fn dirs<'a>(
     Ok((dirs, rest))
 }
 
-/// The label that comes first, or none, with the semicolon that has to follow, and the tokens behind it.
+/// The label that comes first, or none, with the semicolon that has to follow, and the tokens after it.
 pub(crate) fn label(tokens: &[Token]) -> Result<(Option<u64>, &[Token]), Fault>
     ensures read { IfOk result (λ r. (text : List ℕ) → IsRead text Label tokens.now r.0 r.1.now) }
     ensures wrong { IfErr result (λ e. (text : List ℕ) → IsStuck text Label tokens.now e) }
@@ -99,7 +100,7 @@ pub(crate) fn label(tokens: &[Token]) -> Result<(Option<u64>, &[Token]), Fault>
     Ok((None, rest))
 }
 
-/// The length that comes first in brackets, or none, with the semicolon that has to follow, and the tokens behind it.
+/// The length that comes first in brackets, or none, with the semicolon that has to follow, and the tokens after it.
 pub(crate) fn length(tokens: &[Token]) -> Result<(Option<u64>, &[Token]), Fault>
     ensures read { IfOk result (λ r. (text : List ℕ) → IsRead text Length tokens.now r.0 r.1.now) }
     ensures wrong { IfErr result (λ e. (text : List ℕ) → IsStuck text Length tokens.now e) }

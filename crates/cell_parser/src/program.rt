@@ -1,14 +1,13 @@
 ghost use Rattle.std.specs.Prelude.{◌≡◌, Ok, IfOk, IfErr};
 ghost use Rattle.cell_tree.specs.declared.source.Source.{Source};
-ghost use Rattle.cell_parser.specs.Declaring.{Comes, Halts, with_links, with_messages, with_cells};
+ghost use Rattle.cell_parser.specs.Inner.Declaring.{Comes, Halts, with_links, with_messages, with_cells};
 ghost use Rattle.cell_parser.specs.Lexeme.{lexemes};
-ghost use Rattle.cell_parser.specs.Machine.{Links, Messages, Cells, run, start};
-ghost use Rattle.cell_parser.specs.Reading.{AreTokens};
+ghost use Rattle.cell_parser.specs.Inner.Machine.{Links, Messages, Cells, run, start};
+ghost use Rattle.cell_parser.specs.Inner.Reading.{AreTokens};
 
 use crate::cursor::{after_key, expect_x, keyword, number, unexpected};
 use crate::declaration::{cell, link, message};
 use crate::fault::Fault;
-use crate::names::Names;
 use crate::parts::setting;
 use cell_lexer::{Key, Token};
 use cell_tree::{CellDecl, LinkDecl, MessageDecl, Source};
@@ -21,25 +20,15 @@ pub(crate) fn program(alloc: Global, text: &[u8], tokens: &[Token]) -> Result<So
     ensures read { IfOk result (λ s. run start (lexemes text.now tokens.now) ≡ Ok s) }
     ensures wrong { IfErr result (λ e. Halts text.now start tokens.now e) }
 {
-    let names = Names::new(alloc)?;
-    source(&names, text, tokens)
-}
-
-/// The source that the tokens are, its names made by `names`.
-fn source(names: &Names, text: &[u8], tokens: &[Token]) -> Result<Source, Fault>
-    requires { AreTokens text.now tokens.now }
-    ensures read { IfOk result (λ s. run start (lexemes text.now tokens.now) ≡ Ok s) }
-    ensures wrong { IfErr result (λ e. Halts text.now start tokens.now e) }
-{
     let (array_line, rest) = keyword(Key::Array, tokens)?;
     let (rows, rest) = number(rest)?;
     let rest = expect_x(text, rest)?;
     let (cols, rest) = setting(rest)?;
     let (queues_line, rest) = keyword(Key::Queues, rest)?;
     let (queues, rest) = setting(rest)?;
-    let (links, rest) = links(names.alloc, text, rest)?;
-    let (messages, rest) = messages(names, text, rest)?;
-    let cells = cells(names, text, rest)?;
+    let (links, rest) = links(alloc, text, rest)?;
+    let (messages, rest) = messages(alloc, text, rest)?;
+    let cells = cells(alloc, text, rest)?;
     Ok(Source {
         rows,
         cols,
@@ -54,7 +43,7 @@ fn source(names: &Names, text: &[u8], tokens: &[Token]) -> Result<Source, Fault>
     })
 }
 
-/// The `link` lines that come first, and the tokens behind them.
+/// The `link` lines that come first, and the tokens after them.
 fn links<'a>(
     alloc: Global,
     text: &[u8],
@@ -76,9 +65,9 @@ fn links<'a>(
     Ok((links, rest))
 }
 
-/// The `message` lines that come first, and the tokens behind them.
+/// The `message` lines that come first, and the tokens after them.
 fn messages<'a>(
-    names: &Names,
+    alloc: Global,
     text: &[u8],
     tokens: &'a [Token],
 ) -> Result<(Items<MessageDecl>, &'a [Token]), Fault>
@@ -88,27 +77,27 @@ fn messages<'a>(
     ensures wrong { IfErr result (λ e. (s : Source) → Halts text.now (Messages s) tokens.now e) }
     ensures kept { IfOk result (λ r. AreTokens text.now r.1.now) }
 {
-    let mut messages = Items::new(names.alloc);
+    let mut messages = Items::new(alloc);
     let mut rest = tokens;
     'each: while let Some((line, after)) = after_key(Key::Message, rest) {
-        let (message, next) = message(names, text, after, line)?;
+        let (message, next) = message(alloc, text, after, line)?;
         messages.push(message)?;
         rest = next;
     }
     Ok((messages, rest))
 }
 
-/// The cells, behind which no token may stand.
-fn cells(names: &Names, text: &[u8], tokens: &[Token]) -> Result<Items<CellDecl>, Fault>
+/// The cells, after which no token may stand.
+fn cells(alloc: Global, text: &[u8], tokens: &[Token]) -> Result<Items<CellDecl>, Fault>
     requires { AreTokens text.now tokens.now }
     ensures read { IfOk result
         (λ cells. (s : Source) → run (Cells s) (lexemes text.now tokens.now) ≡ Ok (with_cells s cells)) }
     ensures wrong { IfErr result (λ e. (s : Source) → Halts text.now (Cells s) tokens.now e) }
 {
-    let mut cells = Items::new(names.alloc);
+    let mut cells = Items::new(alloc);
     let mut rest = tokens;
     'each: while let Some((line, after)) = after_key(Key::Cell, rest) {
-        let (cell, next) = cell(names, text, after, line)?;
+        let (cell, next) = cell(alloc, text, after, line)?;
         cells.push(cell)?;
         rest = next;
     }

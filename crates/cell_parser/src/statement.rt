@@ -1,23 +1,23 @@
 ghost use Rattle.std.specs.Prelude.{◌≡◌, ◌<◌, length, IfOk, IfErr};
 ghost use Rattle.cell_lexer.specs.declared.token.Mark.TheVariants as M;
 ghost use Rattle.cell_parser.specs.Lexeme.{Marked};
-ghost use Rattle.cell_parser.specs.Machine.{Body, Target, index, write, read, take, emit, loop, choice};
-ghost use Rattle.cell_parser.specs.Reading.{AreTokens, Lacks, IsAct, NoAct, IsKeyed, NoKeyed, IsStatement, NoStatement, IsBody, NoBody, IsBlock, NoBlock, set_state};
+ghost use Rattle.cell_parser.specs.Inner.Machine.{Body, Target, index, write, read, take, emit, loop, choice};
+ghost use Rattle.cell_parser.specs.Inner.Reading.{AreTokens, Lacks, IsAct, NoAct, IsKeyed, NoKeyed, IsStatement, NoStatement, IsBody, NoBody, IsBlock, NoBlock, set_state};
 
 use crate::cursor::{
-    after_mark, expect, expect_key, name, next_key, next_name, number, unexpected,
+    after_mark, expect, expect_key, name, named, next_key, next_name, number, unexpected,
 };
 use crate::expression::expression;
 use crate::fault::Fault;
-use crate::names::Names;
 use cell_lexer::{Key, Mark, Token};
 use cell_tree::{Act, Stmt};
+use std::alloc::Global;
 use sys_base::{Items, Name};
 
-/// Statements up to the brace that ends their block, and the tokens behind that.
+/// Statements up to the brace that ends their block, and the tokens after that.
 #[cycle(statement)]
 pub(crate) fn body<'a>(
-    names: &Names,
+    alloc: Global,
     text: &[u8],
     tokens: &'a [Token],
 ) -> Result<(Items<Stmt>, &'a [Token]), Fault>
@@ -27,22 +27,22 @@ pub(crate) fn body<'a>(
     ensures shorter { IfOk result (λ r. length r.1.now < length tokens.now) }
     ensures kept { IfOk result (λ r. AreTokens text.now r.1.now) }
 {
-    let mut body = Items::new(names.alloc);
+    let mut body = Items::new(alloc);
     let mut rest = tokens;
     'each: loop {
         if let Some(after) = after_mark(Mark::CloseBrace, rest) {
             return Ok((body, after));
         }
-        let (statement, next) = statement(names, text, rest)?;
+        let (statement, next) = statement(alloc, text, rest)?;
         body.push(statement)?;
         rest = next;
     }
 }
 
-/// A block in its braces, and the tokens behind it.
+/// A block in its braces, and the tokens after it.
 #[cycle(statement)]
 fn block<'a>(
-    names: &Names,
+    alloc: Global,
     text: &[u8],
     tokens: &'a [Token],
 ) -> Result<(Items<Stmt>, &'a [Token]), Fault>
@@ -53,13 +53,13 @@ fn block<'a>(
     ensures kept { IfOk result (λ r. AreTokens text.now r.1.now) }
 {
     let rest = expect(Mark::OpenBrace, tokens)?;
-    body(names, text, rest)
+    body(alloc, text, rest)
 }
 
-/// A statement, and the tokens behind it.
+/// A statement, and the tokens after it.
 #[cycle(statement)]
 fn statement<'a>(
-    names: &Names,
+    alloc: Global,
     text: &[u8],
     tokens: &'a [Token],
 ) -> Result<(Stmt, &'a [Token]), Fault>
@@ -71,23 +71,23 @@ fn statement<'a>(
     ensures kept { IfOk result (λ r. AreTokens text.now r.1.now) }
 {
     if let Some((bytes, line, after)) = next_name(text, tokens) {
-        let name = names.name(bytes)?;
-        let (act, rest) = assignment(names, text, name, after)?;
+        let name = named(alloc, bytes)?;
+        let (act, rest) = assignment(alloc, text, name, after)?;
         return Ok((Stmt { line, act }, rest));
     }
     match next_key(tokens) {
         Some((key, line, after)) => {
-            let (act, rest) = keyed(names, text, key, after)?;
+            let (act, rest) = keyed(alloc, text, key, after)?;
             Ok((Stmt { line, act }, rest))
         }
         None => Err(unexpected(tokens)),
     }
 }
 
-/// What a statement that begins with this keyword does, and the tokens behind it.
+/// What a statement that begins with this keyword does, and the tokens after it.
 #[cycle(statement)]
 fn keyed<'a>(
-    names: &Names,
+    alloc: Global,
     text: &[u8],
     key: Key,
     tokens: &'a [Token],
@@ -99,22 +99,22 @@ fn keyed<'a>(
     ensures kept { IfOk result (λ r. AreTokens text.now r.1.now) }
 {
     match key {
-        Key::Write => write(names, text, tokens),
-        Key::Read => read(names, text, tokens),
-        Key::Take => take(names, text, tokens),
-        Key::Emit => emit(names, text, tokens),
-        Key::For => for_loop(names, text, tokens),
-        Key::If => choice(names, text, tokens),
+        Key::Write => write(alloc, text, tokens),
+        Key::Read => read(alloc, text, tokens),
+        Key::Take => take(alloc, text, tokens),
+        Key::Emit => emit(alloc, text, tokens),
+        Key::For => for_loop(alloc, text, tokens),
+        Key::If => choice(alloc, text, tokens),
         _ => Err(Fault::Unexpected {
             left: tokens.len() + 1,
         }),
     }
 }
 
-/// A loop behind its keyword, and the tokens behind it.
+/// A loop after its keyword, and the tokens after it.
 #[cycle(statement)]
 fn for_loop<'a>(
-    names: &Names,
+    alloc: Global,
     text: &[u8],
     tokens: &'a [Token],
 ) -> Result<(Act, &'a [Token]), Fault>
@@ -124,9 +124,9 @@ fn for_loop<'a>(
     ensures shorter { IfOk result (λ r. length r.1.now < length tokens.now) }
     ensures kept { IfOk result (λ r. AreTokens text.now r.1.now) }
 {
-    let (counter, rest) = name(names, text, tokens)?;
+    let (counter, rest) = name(alloc, text, tokens)?;
     let (turns, rest) = number(rest)?;
-    let (body, rest) = block(names, text, rest)?;
+    let (body, rest) = block(alloc, text, rest)?;
     Ok((
         Act::For {
             counter,
@@ -137,25 +137,25 @@ fn for_loop<'a>(
     ))
 }
 
-/// A choice behind its keyword, and the tokens behind it.
+/// A choice after its keyword, and the tokens after it.
 #[cycle(statement)]
-fn choice<'a>(names: &Names, text: &[u8], tokens: &'a [Token]) -> Result<(Act, &'a [Token]), Fault>
+fn choice<'a>(alloc: Global, text: &[u8], tokens: &'a [Token]) -> Result<(Act, &'a [Token]), Fault>
     requires { AreTokens text.now tokens.now }
     ensures read { IfOk result (λ r. IsAct text.now choice tokens.now r.0 r.1.now) }
     ensures wrong { IfErr result (λ e. NoAct text.now choice tokens.now e) }
     ensures shorter { IfOk result (λ r. length r.1.now < length tokens.now) }
     ensures kept { IfOk result (λ r. AreTokens text.now r.1.now) }
 {
-    let (test, rest) = expression(names, Mark::OpenBrace, text, tokens)?;
-    let (yes, rest) = body(names, text, rest)?;
+    let (test, rest) = expression(alloc, Mark::OpenBrace, text, tokens)?;
+    let (yes, rest) = body(alloc, text, rest)?;
     let rest = expect_key(Key::Else, rest)?;
-    let (no, rest) = block(names, text, rest)?;
+    let (no, rest) = block(alloc, text, rest)?;
     Ok((Act::If { test, yes, no }, rest))
 }
 
-/// An assignment behind the name of its target, and the tokens behind it.
+/// An assignment after the name of its target, and the tokens after it.
 fn assignment<'a>(
-    names: &Names,
+    alloc: Global,
     text: &[u8],
     name: Name,
     tokens: &'a [Token],
@@ -167,17 +167,17 @@ fn assignment<'a>(
     ensures kept { IfOk result (λ r. AreTokens text.now r.1.now) }
 {
     if let Some(after) = after_mark(Mark::Assign, tokens) {
-        return set(names, text, name, after);
+        return set(alloc, text, name, after);
     }
     match after_mark(Mark::OpenBracket, tokens) {
-        Some(after) => set_at(names, text, name, after),
+        Some(after) => set_at(alloc, text, name, after),
         None => Err(unexpected(tokens)),
     }
 }
 
-/// An assignment to a variable behind its first mark, and the tokens behind it.
+/// An assignment to a variable after its first mark, and the tokens after it.
 fn set<'a>(
-    names: &Names,
+    alloc: Global,
     text: &[u8],
     name: Name,
     tokens: &'a [Token],
@@ -188,13 +188,13 @@ fn set<'a>(
     ensures shorter { IfOk result (λ r. length r.1.now < length tokens.now) }
     ensures kept { IfOk result (λ r. AreTokens text.now r.1.now) }
 {
-    let (value, rest) = expression(names, Mark::Semicolon, text, tokens)?;
+    let (value, rest) = expression(alloc, Mark::Semicolon, text, tokens)?;
     Ok((Act::Set { name, value }, rest))
 }
 
-/// An assignment to an element behind its first mark, and the tokens behind it.
+/// An assignment to an element after its first mark, and the tokens after it.
 fn set_at<'a>(
-    names: &Names,
+    alloc: Global,
     text: &[u8],
     name: Name,
     tokens: &'a [Token],
@@ -205,60 +205,60 @@ fn set_at<'a>(
     ensures shorter { IfOk result (λ r. length r.1.now < length tokens.now) }
     ensures kept { IfOk result (λ r. AreTokens text.now r.1.now) }
 {
-    let (index, rest) = expression(names, Mark::CloseBracket, text, tokens)?;
+    let (index, rest) = expression(alloc, Mark::CloseBracket, text, tokens)?;
     let rest = expect(Mark::Assign, rest)?;
-    let (value, rest) = expression(names, Mark::Semicolon, text, rest)?;
+    let (value, rest) = expression(alloc, Mark::Semicolon, text, rest)?;
     Ok((Act::SetAt { name, index, value }, rest))
 }
 
-/// What a `write` does, behind its keyword, and the tokens behind it.
-fn write<'a>(names: &Names, text: &[u8], tokens: &'a [Token]) -> Result<(Act, &'a [Token]), Fault>
+/// What a `write` does, after its keyword, and the tokens after it.
+fn write<'a>(alloc: Global, text: &[u8], tokens: &'a [Token]) -> Result<(Act, &'a [Token]), Fault>
     requires { AreTokens text.now tokens.now }
     ensures read { IfOk result (λ r. IsAct text.now write tokens.now r.0 r.1.now) }
     ensures wrong { IfErr result (λ e. NoAct text.now write tokens.now e) }
     ensures shorter { IfOk result (λ r. length r.1.now < length tokens.now) }
     ensures kept { IfOk result (λ r. AreTokens text.now r.1.now) }
 {
-    let (message, rest) = name(names, text, tokens)?;
-    let (value, rest) = expression(names, Mark::Semicolon, text, rest)?;
+    let (message, rest) = name(alloc, text, tokens)?;
+    let (value, rest) = expression(alloc, Mark::Semicolon, text, rest)?;
     Ok((Act::Write { message, value }, rest))
 }
 
-/// What a `read` does, behind its keyword, and the tokens behind it.
-fn read<'a>(names: &Names, text: &[u8], tokens: &'a [Token]) -> Result<(Act, &'a [Token]), Fault>
+/// What a `read` does, after its keyword, and the tokens after it.
+fn read<'a>(alloc: Global, text: &[u8], tokens: &'a [Token]) -> Result<(Act, &'a [Token]), Fault>
     requires { AreTokens text.now tokens.now }
     ensures read { IfOk result (λ r. IsAct text.now read tokens.now r.0 r.1.now) }
     ensures wrong { IfErr result (λ e. NoAct text.now read tokens.now e) }
     ensures shorter { IfOk result (λ r. length r.1.now < length tokens.now) }
     ensures kept { IfOk result (λ r. AreTokens text.now r.1.now) }
 {
-    let (message, rest) = name(names, text, tokens)?;
-    let (name, rest) = name(names, text, rest)?;
+    let (message, rest) = name(alloc, text, tokens)?;
+    let (name, rest) = name(alloc, text, rest)?;
     let rest = expect(Mark::Semicolon, rest)?;
     Ok((Act::Read { message, name }, rest))
 }
 
-/// What a `take` does, behind its keyword, and the tokens behind it.
-fn take<'a>(names: &Names, text: &[u8], tokens: &'a [Token]) -> Result<(Act, &'a [Token]), Fault>
+/// What a `take` does, after its keyword, and the tokens after it.
+fn take<'a>(alloc: Global, text: &[u8], tokens: &'a [Token]) -> Result<(Act, &'a [Token]), Fault>
     requires { AreTokens text.now tokens.now }
     ensures read { IfOk result (λ r. IsAct text.now take tokens.now r.0 r.1.now) }
     ensures wrong { IfErr result (λ e. NoAct text.now take tokens.now e) }
     ensures shorter { IfOk result (λ r. length r.1.now < length tokens.now) }
     ensures kept { IfOk result (λ r. AreTokens text.now r.1.now) }
 {
-    let (name, rest) = name(names, text, tokens)?;
+    let (name, rest) = name(alloc, text, tokens)?;
     let rest = expect(Mark::Semicolon, rest)?;
     Ok((Act::Take { name }, rest))
 }
 
-/// What an `emit` does, behind its keyword, and the tokens behind it.
-fn emit<'a>(names: &Names, text: &[u8], tokens: &'a [Token]) -> Result<(Act, &'a [Token]), Fault>
+/// What an `emit` does, after its keyword, and the tokens after it.
+fn emit<'a>(alloc: Global, text: &[u8], tokens: &'a [Token]) -> Result<(Act, &'a [Token]), Fault>
     requires { AreTokens text.now tokens.now }
     ensures read { IfOk result (λ r. IsAct text.now emit tokens.now r.0 r.1.now) }
     ensures wrong { IfErr result (λ e. NoAct text.now emit tokens.now e) }
     ensures shorter { IfOk result (λ r. length r.1.now < length tokens.now) }
     ensures kept { IfOk result (λ r. AreTokens text.now r.1.now) }
 {
-    let (value, rest) = expression(names, Mark::Semicolon, text, tokens)?;
+    let (value, rest) = expression(alloc, Mark::Semicolon, text, tokens)?;
     Ok((Act::Emit { value }, rest))
 }

@@ -4,10 +4,10 @@ use Rattle.sys_base.specs.declared.key.Key.TheVariants as K
 use Rattle.sys_base.specs.declared.kinds.Dir.{Dir}
 use Rattle.cell_tree.specs.declared.source.Place.{Place}
 use Rattle.cell_tree.specs.declared.source.Source.{Source}
-use Rattle.cell_parser.specs.Machine.{State, ExpectDir, Links, key, setting, with_link}
+use Rattle.cell_parser.specs.Inner.Machine.{State, ExpectDir, Links, key, setting, with_link}
 use Rattle.cell_parser.proofs.declaration.link.Goals as goal
 
--- what is wanted behind the place, and behind the direction
+-- what is wanted after the place, and after the direction
 abbrev queues : ℕ → Source → Place → Dir → ℕ → State
 queues l s p d q = Links (with_link s (record { place = p; dir = d; queues = q; line = l }))
 

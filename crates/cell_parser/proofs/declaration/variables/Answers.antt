@@ -1,5 +1,5 @@
 use Rattle.std.proofs.Common.{◌∙◌}
-use Rattle.cell_parser.specs.Declaring.{with_vars}
+use Rattle.cell_parser.specs.Inner.Declaring.{with_vars}
 use Rattle.cell_parser.specs.Lexeme.{lexemes}
 use Rattle.cell_parser.proofs.DeclarationSteps.{vars_pass}
 use Rattle.cell_parser.proofs.declaration.variables.Goals as goal

@@ -1,9 +1,9 @@
 use Rattle.std.proofs.Common.{◌≤◌, length}
 use Rattle.cell_tree.specs.declared.source.CellDecl.{CellDecl}
 use Rattle.cell_tree.specs.declared.source.Source.{Source}
-use Rattle.cell_parser.specs.Declaring.{Comes, with_vars}
-use Rattle.cell_parser.specs.Machine.{Vars}
-use Rattle.cell_parser.specs.Reading.{AreTokens}
+use Rattle.cell_parser.specs.Inner.Declaring.{Comes, with_vars}
+use Rattle.cell_parser.specs.Inner.Machine.{Vars}
+use Rattle.cell_parser.specs.Inner.Reading.{AreTokens}
 use Rattle.cell_parser.proofs.declaration.variables.Given as goal
 
 -- the variables so far have been read up to the rest

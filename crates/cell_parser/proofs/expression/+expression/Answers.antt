@@ -1,7 +1,7 @@
 use Rattle.std.proofs.Common.{◌∙◌, sym, ap, arith}
 use Rattle.std.proofs.lemmas.Result.{err_from_is_err_and}
 use Rattle.cell_parser.specs.Lexeme.{Marked, lexemes}
-use Rattle.cell_parser.specs.Machine.{WantAtom, Have, Terms, Sums, Compares, Operand, Negates, Then, Expect, run}
+use Rattle.cell_parser.specs.Inner.Machine.{WantAtom, Have, Terms, Sums, Compares, Operand, Negates, Then, Expect, run}
 use Rattle.cell_parser.proofs.Steps.{stops, atom_lacks, have_then, have_operand, have_negates}
 use Rattle.cell_parser.proofs.expression.+expression.Goals as goal
 
@@ -11,8 +11,8 @@ atom-returns-in-None-clause-wrong t c = λ left at k.
     (atom_lacks k (lexemes c.args.text.now c.args.tokens.now) (c.in_default.ensures.none c.args.text.now) c.in_default-next_name.ensures.none (c.in-None.ensures.none c.args.text.now))
     c.unexpected.result c.unexpected.ensures left at
 
-pub ended-returns-clause-read : goal.ended-returns-clause-read
-ended-returns-clause-read t c = λ closer is k.
+pub expression-returns-clause-read : goal.expression-returns-clause-read
+expression-returns-clause-read t c = λ closer is k.
     let xs = lexemes c.args.text.now c.in_ok-value.rest.now in
     c.in_ok-value.ensures.read (Then closer k) ∙ have_then c.in_ok-value.value closer k xs
     ∙ ap (λ m. run (Expect (Marked m) (k c.in_ok-value.value)) xs) is ∙ c.in_ok-rest.ensures.read c.args.text.now (k c.in_ok-value.value)
@@ -51,8 +51,8 @@ whole-returns-in_ok-binary-in-Some-clause-read t c = λ k.
     ∙ have_operand c.in-Some.op c.in_ok-left.left c.in_ok-right-in-Some.right k xs
     ∙ ap (λ e. run (Have e k) xs) (sym c.in_ok-binary-in-Some.ensures.built)
 
-pub ended-returns-in_err-rest-clause-wrong : goal.ended-returns-in_err-rest-clause-wrong
-ended-returns-in_err-rest-clause-wrong t c =
+pub expression-returns-in_err-rest-clause-wrong : goal.expression-returns-in_err-rest-clause-wrong
+expression-returns-in_err-rest-clause-wrong t c =
     let p = err_from_is_err_and c.from_residual-in_err-rest.result c.from_residual-in_err-rest.ensures.1 in
     rw (p.1, p.2) (λ closer is left at k.
     let xs = lexemes c.args.text.now c.in_ok-value.rest.now in

@@ -1,11 +1,11 @@
 use Rattle.std.proofs.Common.{◌≡◌, ◌+◌, ◌*◌, ◌<◌, length}
 use Rattle.cell_parser.specs.Lexeme.{lexemes}
-use Rattle.cell_parser.specs.Machine.{Open, Have, Terms, Sums, run}
-use Rattle.cell_parser.specs.Reading.{AreTokens, a_term, a_sum}
+use Rattle.cell_parser.specs.Inner.Machine.{Open, Have, Terms, Sums, run}
+use Rattle.cell_parser.specs.Inner.Reading.{AreTokens, a_term, a_sum}
 use Rattle.cell_parser.proofs.expression.+expression.Given as goal
 
-abbrev pub decreases-ended : goal.decreases-ended
-decreases-ended l = 7 * length l.tokens.now + 6
+abbrev pub decreases-expression : goal.decreases-expression
+decreases-expression l = 7 * length l.tokens.now + 6
 
 abbrev pub decreases-whole : goal.decreases-whole
 decreases-whole l = 7 * length l.tokens.now + 5

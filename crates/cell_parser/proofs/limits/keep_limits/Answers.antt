@@ -2,7 +2,7 @@ use Rattle.std.proofs.Common.{ℕ, ◌≡◌, ◌≤◌, List, get_or, take, Som
 use Rattle.std.proofs.lemmas.Option.{slice_get-get_or}
 use Rattle.cell_lexer.specs.declared.token.Sort.TheVariants as S
 use Rattle.cell_lexer.specs.declared.token.Token.{Token}
-use Rattle.cell_parser.specs.Limits.{piece_behind, open_behind, in_piece, Over}
+use Rattle.cell_parser.specs.Limits.{piece_after, braces_after, in_piece, Over}
 use Rattle.cell_parser.proofs.Overs.{piece_more, open_more, kept_more, all_kept}
 use Rattle.cell_parser.proofs.limits.keep_limits.Goals as goal
 
@@ -15,10 +15,10 @@ loop-token-preserved c =
     let so_far = c.loop-token.invariant in
     let kept = c.in_ok-keep_limit.ensures in
     record {
-      piece = c.piece_behind-piece.ensures ∙ ap (piece_behind t.sort) so_far.piece ∙ sym (piece_more ts i t is);
-      braces = c.open_behind-braces.ensures ∙ ap (open_behind t.sort) so_far.braces ∙ sym (open_more ts i t is);
-      short = subst (λ n. n ≤ 256) (sym c.piece_behind-piece.ensures) kept.short;
-      few = subst (λ n. n ≤ 17) (sym c.open_behind-braces.ensures) kept.few;
+      piece = c.piece_after-piece.ensures ∙ ap (piece_after t.sort) so_far.piece ∙ sym (piece_more ts i t is);
+      braces = c.braces_after-braces.ensures ∙ ap (braces_after t.sort) so_far.braces ∙ sym (open_more ts i t is);
+      short = subst (λ n. n ≤ 256) (sym c.piece_after-piece.ensures) kept.short;
+      few = subst (λ n. n ≤ 17) (sym c.braces_after-braces.ensures) kept.few;
       kept = kept_more ts i t is so_far.kept (λ e over. kept.kept e (subst (λ n. Over n c.loop-token.braces t e) (sym so_far.piece) (subst (λ n. Over (in_piece (take i ts)) n t e) (sym so_far.braces) over)));
     }
 

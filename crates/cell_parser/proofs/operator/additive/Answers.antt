@@ -1,7 +1,7 @@
 use Rattle.std.proofs.Common.{◌≡◌, ℕ, List}
 use Rattle.cell_tree.specs.declared.expression.Expr.{Expr}
 use Rattle.cell_parser.specs.Lexeme.{lexemes}
-use Rattle.cell_parser.specs.Machine.{Open, Have, Sums, run}
+use Rattle.cell_parser.specs.Inner.Machine.{Open, Have, Sums, run}
 use Rattle.cell_parser.proofs.Steps.{if_none, sums_end}
 use Rattle.cell_parser.proofs.operator.additive.Goals as goal
 

@@ -2,8 +2,8 @@ use Rattle.std.proofs.Common.{◌≡◌, ℕ, List}
 use Rattle.cell_lexer.specs.declared.token.Mark.TheVariants as M
 use Rattle.cell_tree.specs.declared.expression.Expr.TheVariants as E
 use Rattle.cell_parser.specs.Lexeme.{lexemes, Marked}
-use Rattle.cell_parser.specs.Machine.{Open, Called, Have, run}
-use Rattle.cell_parser.specs.Reading.{Lacks}
+use Rattle.cell_parser.specs.Inner.Machine.{Open, Called, Have, run}
+use Rattle.cell_parser.specs.Inner.Reading.{Lacks}
 use Rattle.cell_parser.proofs.Steps.{if_none_map, no_index}
 use Rattle.cell_parser.proofs.operator.index.Goals as goal
 

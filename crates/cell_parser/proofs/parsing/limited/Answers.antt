@@ -4,7 +4,10 @@ use Rattle.cell_parser.proofs.Refusals.{each_stands}
 use Rattle.cell_parser.proofs.parsing.limited.Goals as goal
 
 pub program-requires : goal.program-requires
-program-requires c = each_stands c.args.text.now 0 (length c.args.text.now) c.args.tokens.now c.requires.tokens
+program-requires c =
+    let text = c.args.text.now in
+    let tokens = c.args.tokens.now in
+    each_stands text 0 (length text) tokens (c.few_tokens.ensures.inside text tokens c.requires.tokens) c.requires.tokens
 
 pub place_of-place-requires-clause-left : goal.place_of-place-requires-clause-left
 place_of-place-requires-clause-left c =

@@ -1,6 +1,6 @@
 use Rattle.std.proofs.Common.{sym, ◌∙◌}
 use Rattle.cell_parser.specs.Lexeme.{lexemes}
-use Rattle.cell_parser.specs.Machine.{Dirs}
+use Rattle.cell_parser.specs.Inner.Machine.{Dirs}
 use Rattle.cell_parser.proofs.Steps.{stops}
 use Rattle.cell_parser.proofs.DeclarationSteps.{dirs_pass, dirs_stuck}
 use Rattle.cell_parser.proofs.parts.dirs.Goals as goal

@@ -1,8 +1,8 @@
 use Rattle.std.proofs.Common.{ℕ, ◌≤◌, List, Option, length}
 use Rattle.sys_base.specs.declared.kinds.Dir.{Dir}
-use Rattle.cell_parser.specs.Declaring.{Comes, first_dir}
-use Rattle.cell_parser.specs.Machine.{State, Dirs}
-use Rattle.cell_parser.specs.Reading.{AreTokens}
+use Rattle.cell_parser.specs.Inner.Declaring.{Comes, first_dir}
+use Rattle.cell_parser.specs.Inner.Machine.{State, Dirs}
+use Rattle.cell_parser.specs.Inner.Reading.{AreTokens}
 use Rattle.cell_parser.proofs.parts.dirs.Given as goal
 
 -- the directions so far have been read up to the rest

@@ -1,7 +1,7 @@
 use Rattle.std.proofs.Common.{Some, None, ap, ◌∙◌}
 use Rattle.std.proofs.lemmas.Result.{err_from_is_err_and}
 use Rattle.cell_parser.specs.Lexeme.{lexemes}
-use Rattle.cell_parser.specs.Machine.{Label, run}
+use Rattle.cell_parser.specs.Inner.Machine.{Label, run}
 use Rattle.cell_parser.proofs.DeclarationSteps.{label_pass}
 use Rattle.cell_parser.proofs.parts.label.Goals as goal
 

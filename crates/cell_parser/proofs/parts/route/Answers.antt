@@ -1,6 +1,6 @@
 use Rattle.std.proofs.Common.{sym, ap, ◌∙◌}
 use Rattle.cell_parser.specs.Lexeme.{lexemes}
-use Rattle.cell_parser.specs.Machine.{Label, run}
+use Rattle.cell_parser.specs.Inner.Machine.{Label, run}
 use Rattle.cell_parser.proofs.DeclarationSteps.{route_pass}
 use Rattle.cell_parser.proofs.parts.route.Goals as goal
 

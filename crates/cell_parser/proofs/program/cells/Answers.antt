@@ -1,7 +1,7 @@
 use Rattle.std.proofs.Common.{◌∙◌}
-use Rattle.cell_parser.specs.Declaring.{with_cells}
+use Rattle.cell_parser.specs.Inner.Declaring.{with_cells}
 use Rattle.cell_parser.specs.Lexeme.{lexemes}
-use Rattle.cell_parser.specs.Machine.{Cells}
+use Rattle.cell_parser.specs.Inner.Machine.{Cells}
 use Rattle.cell_parser.proofs.DeclarationSteps.{cells_stuck, some_lexeme}
 use Rattle.cell_parser.proofs.Steps.{stops}
 use Rattle.cell_parser.proofs.program.cells.Goals as goal

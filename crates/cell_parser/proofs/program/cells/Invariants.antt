@@ -1,8 +1,8 @@
 use Rattle.std.proofs.Common.{length}
 use Rattle.cell_tree.specs.declared.source.Source.{Source}
-use Rattle.cell_parser.specs.Declaring.{Comes, with_cells}
-use Rattle.cell_parser.specs.Machine.{Cells}
-use Rattle.cell_parser.specs.Reading.{AreTokens}
+use Rattle.cell_parser.specs.Inner.Declaring.{Comes, with_cells}
+use Rattle.cell_parser.specs.Inner.Machine.{Cells}
+use Rattle.cell_parser.specs.Inner.Reading.{AreTokens}
 use Rattle.cell_parser.proofs.program.cells.Given as goal
 
 -- the cells so far have been read up to the rest

@@ -1,5 +1,5 @@
 use Rattle.std.proofs.Common.{◌∙◌}
-use Rattle.cell_parser.specs.Declaring.{with_links}
+use Rattle.cell_parser.specs.Inner.Declaring.{with_links}
 use Rattle.cell_parser.specs.Lexeme.{lexemes}
 use Rattle.cell_parser.proofs.DeclarationSteps.{links_pass}
 use Rattle.cell_parser.proofs.program.links.Goals as goal

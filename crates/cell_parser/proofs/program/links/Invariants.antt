@@ -1,8 +1,8 @@
 use Rattle.std.proofs.Common.{length}
 use Rattle.cell_tree.specs.declared.source.Source.{Source}
-use Rattle.cell_parser.specs.Declaring.{Comes, with_links}
-use Rattle.cell_parser.specs.Machine.{Links}
-use Rattle.cell_parser.specs.Reading.{AreTokens}
+use Rattle.cell_parser.specs.Inner.Declaring.{Comes, with_links}
+use Rattle.cell_parser.specs.Inner.Machine.{Links}
+use Rattle.cell_parser.specs.Inner.Reading.{AreTokens}
 use Rattle.cell_parser.proofs.program.links.Given as goal
 
 -- the links so far have been read up to the rest

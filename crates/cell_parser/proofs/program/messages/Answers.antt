@@ -1,5 +1,5 @@
 use Rattle.std.proofs.Common.{◌∙◌}
-use Rattle.cell_parser.specs.Declaring.{with_messages}
+use Rattle.cell_parser.specs.Inner.Declaring.{with_messages}
 use Rattle.cell_parser.specs.Lexeme.{lexemes}
 use Rattle.cell_parser.proofs.DeclarationSteps.{messages_pass}
 use Rattle.cell_parser.proofs.program.messages.Goals as goal

@@ -1,6 +1,6 @@
 use Rattle.std.proofs.Common.{◌∙◌, ap, Err}
 use Rattle.cell_parser.specs.Lexeme.{lexemes}
-use Rattle.cell_parser.specs.Machine.{Body}
+use Rattle.cell_parser.specs.Inner.Machine.{Body}
 use Rattle.cell_parser.proofs.Steps.{stops, one_before, key_stops, body_lacks}
 use Rattle.cell_parser.proofs.statement.+statement.Goals as goal
 

@@ -1,7 +1,7 @@
 use Rattle.std.proofs.Common.{◌≡◌, ◌+◌, ◌*◌, ◌≤◌, [], length}
 use Rattle.cell_parser.specs.Lexeme.{lexemes}
-use Rattle.cell_parser.specs.Machine.{Around, Body, run}
-use Rattle.cell_parser.specs.Reading.{AreTokens}
+use Rattle.cell_parser.specs.Inner.Machine.{Around, Body, run}
+use Rattle.cell_parser.specs.Inner.Reading.{AreTokens}
 use Rattle.cell_parser.proofs.statement.+statement.Given as goal
 
 abbrev pub decreases-body : goal.decreases-body

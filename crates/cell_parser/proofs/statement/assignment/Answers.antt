@@ -1,5 +1,5 @@
 use Rattle.cell_parser.specs.Lexeme.{lexemes}
-use Rattle.cell_parser.specs.Machine.{Target}
+use Rattle.cell_parser.specs.Inner.Machine.{Target}
 use Rattle.cell_parser.proofs.Steps.{stops, target_lacks}
 use Rattle.cell_parser.proofs.statement.assignment.Goals as goal
 

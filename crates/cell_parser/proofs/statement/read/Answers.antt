@@ -2,7 +2,7 @@ use Rattle.std.proofs.Common.{◌∙◌}
 use Rattle.std.proofs.lemmas.Result.{err_from_is_err_and}
 use Rattle.cell_lexer.specs.declared.token.Mark.TheVariants as M
 use Rattle.cell_tree.specs.declared.statement.Act.TheVariants as A
-use Rattle.cell_parser.specs.Machine.{ExpectName, mark, stated}
+use Rattle.cell_parser.specs.Inner.Machine.{ExpectName, mark, stated}
 use Rattle.cell_parser.proofs.statement.read.Goals as goal
 
 pub returns-in_err-rest-clause-wrong : goal.returns-in_err-rest-clause-wrong

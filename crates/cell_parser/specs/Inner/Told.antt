@@ -6,13 +6,10 @@ use Rattle.sys_base.specs.Key.{key_text}
 use Rattle.sys_base.specs.declared.key.Key.{Key}
 use Rattle.sys_base.specs.declared.key.Key.TheVariants as K
 use Rattle.sys_base.specs.declared.kinds.Dir.{Dir}
-use Rattle.sys_base.specs.declared.kinds.Op.{Op}
-use Rattle.sys_base.specs.declared.kinds.Op.TheVariants as O
 use Rattle.cell_lexer.specs.Forms.{mark_text}
-use Rattle.cell_lexer.specs.declared.token.Mark.{Mark}
 use Rattle.cell_lexer.specs.declared.token.Mark.TheVariants as M
 use Rattle.cell_tree.specs.Canonical.{dir_text}
-use Rattle.cell_tree.specs.Operator.{op_level, left_of, right_of, fits}
+use Rattle.cell_tree.specs.Operator.{op_mark, op_level, left_of, right_of, fits}
 use Rattle.cell_tree.specs.Pieces.{Piece, none, space, line}
 use Rattle.cell_tree.specs.declared.expression.Expr.{Expr}
 use Rattle.cell_tree.specs.declared.expression.Expr.TheFolds.{fold-Expr}
@@ -57,18 +54,6 @@ tell gap word = Tell gap word ∷ []
 abbrev pub in_brackets : List Told → List Told
 in_brackets inner = tell none (Marked M.OpenBracket) ++ inner ++ tell none (Marked M.CloseBracket)
 
--- the mark of an operator
-abbrev pub op_mark : Op → Mark
-op_mark O.Add = M.Plus
-op_mark O.Sub = M.Minus
-op_mark O.Mul = M.Star
-op_mark O.Div = M.Slash
-op_mark O.Rem = M.Percent
-op_mark O.Less = M.Less
-op_mark O.AtMost = M.AtMost
-op_mark O.Same = M.Same
-op_mark O.Differ = M.Differ
-
 -- an expression's level, and its words after given white space
 pub record Voiced : Type 0 where
   pub level : Level
@@ -95,7 +80,8 @@ words_told (Expr-F.Named name) gap = tell gap (Named name)
 words_told (Expr-F.At name index) gap = tell gap (Named name) ++ in_brackets (index.words none)
 words_told (Expr-F.Negate e) gap = tell gap (Marked M.Minus) ++ at_most (right_of Unary) e none
 words_told (Expr-F.Binary op left right) gap =
-    at_most (left_of (op_level op)) left gap ++ tell space (Marked (op_mark op)) ++ at_most (right_of (op_level op)) right space
+    at_most (left_of (op_level op)) left gap ++ tell space (Marked (op_mark op))
+    ++ at_most (right_of (op_level op)) right space
 
 -- one node, whose operands are already voiced
 abbrev pub voice_step : Expr-F Voiced → Voiced
@@ -109,18 +95,20 @@ voiced = fold-Expr Voiced voice_step
 abbrev pub tell_expression : List ℕ → Expr → List Told
 tell_expression gap e = (voiced e).words gap
 
--- the words of a statement inside so many open blocks
+-- the words of a statement inside this many open blocks
 abbrev pub Uttered : Type 0
 Uttered = ℕ → List Told
 
--- the words of a block that is inside so many others
+-- the words of a block that is inside this many others
 abbrev pub tell_block : List Uttered → ℕ → List Told
 tell_block body depth =
-    tell space (Marked M.OpenBrace) ++ flat_map (λ uttered. uttered (depth + 1)) body ++ tell (line depth) (Marked M.CloseBrace)
+    tell space (Marked M.OpenBrace) ++ flat_map (λ uttered. uttered (depth + 1)) body
+    ++ tell (line depth) (Marked M.CloseBrace)
 
 -- the words of a `for` line before its brace
 abbrev pub tell_for : List ℕ → ℕ → ℕ → List Told
-tell_for counter turns depth = tell (line depth) (Keyword K.For) ++ tell space (Named counter) ++ tell space (Numeral turns)
+tell_for counter turns depth = tell (line depth) (Keyword K.For) ++ tell space (Named counter)
+    ++ tell space (Numeral turns)
 
 -- the words of an `if` line before its brace
 abbrev pub tell_if : Expr → ℕ → List Told
@@ -129,14 +117,17 @@ tell_if test depth = tell (line depth) (Keyword K.If) ++ tell_expression space t
 -- the words of one statement, whose blocks' statements are already told
 abbrev pub tell_act : Act-F Uttered Uttered → Uttered
 tell_act (Act-F.Set name value) depth =
-    tell (line depth) (Named name) ++ tell space (Marked M.Assign) ++ tell_expression space value ++ tell none (Marked M.Semicolon)
+    tell (line depth) (Named name) ++ tell space (Marked M.Assign) ++ tell_expression space value
+    ++ tell none (Marked M.Semicolon)
 tell_act (Act-F.SetAt name index value) depth =
     tell (line depth) (Named name) ++ in_brackets (tell_expression none index) ++ tell space (Marked M.Assign)
     ++ tell_expression space value ++ tell none (Marked M.Semicolon)
 tell_act (Act-F.Write message value) depth =
-    tell (line depth) (Keyword K.Write) ++ tell space (Named message) ++ tell_expression space value ++ tell none (Marked M.Semicolon)
+    tell (line depth) (Keyword K.Write) ++ tell space (Named message) ++ tell_expression space value
+    ++ tell none (Marked M.Semicolon)
 tell_act (Act-F.Read message name) depth =
-    tell (line depth) (Keyword K.Read) ++ tell space (Named message) ++ tell space (Named name) ++ tell none (Marked M.Semicolon)
+    tell (line depth) (Keyword K.Read) ++ tell space (Named message) ++ tell space (Named name)
+    ++ tell none (Marked M.Semicolon)
 tell_act (Act-F.Take name) depth =
     tell (line depth) (Keyword K.Take) ++ tell space (Named name) ++ tell none (Marked M.Semicolon)
 tell_act (Act-F.Emit value) depth =
@@ -150,7 +141,7 @@ tell_act (Act-F.If test first second) depth =
 abbrev pub tell_step : Stmt-F Uttered Uttered → Uttered
 tell_step statement = statement.act
 
--- the words of a statement inside so many open blocks
+-- the words of a statement inside this many open blocks
 abbrev pub tell_statement : Stmt → Uttered
 tell_statement = fold-Stmt Uttered Uttered tell_act tell_step
 
@@ -215,7 +206,8 @@ tell_length (Some length) = in_brackets (tell none (Numeral length))
 -- the words of a `var` line
 abbrev pub tell_var : VarDecl → List Told
 tell_var variable =
-    tell (line 1) (Keyword K.Var) ++ tell space (Named variable.name) ++ tell_length variable.length ++ tell none (Marked M.Semicolon)
+    tell (line 1) (Keyword K.Var) ++ tell space (Named variable.name) ++ tell_length variable.length
+    ++ tell none (Marked M.Semicolon)
 
 -- the words of a cell's contents
 abbrev pub tell_contents : CellDecl → List Told

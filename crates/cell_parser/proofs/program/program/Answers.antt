@@ -1,4 +1,4 @@
-use Rattle.cell_parser.proofs.program.source.Goals as goal
+use Rattle.cell_parser.proofs.program.program.Goals as goal
 
 pub expect_x-requires : goal.expect_x-requires
 expect_x-requires c =

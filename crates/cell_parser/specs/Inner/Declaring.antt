@@ -8,7 +8,7 @@ use Rattle.cell_tree.specs.declared.source.MessageDecl.{MessageDecl}
 use Rattle.cell_tree.specs.declared.source.Source.{Source}
 use Rattle.cell_tree.specs.declared.source.VarDecl.{VarDecl}
 use Rattle.cell_parser.specs.Lexeme.{lexemes}
-use Rattle.cell_parser.specs.Machine.{State, ExpectDir, Dirs, run}
+use Rattle.cell_parser.specs.Inner.Machine.{State, ExpectDir, Dirs, run}
 use Rattle.cell_parser.specs.declared.fault.Fault.{Fault}
 use Rattle.cell_parser.specs.declared.fault.Fault.TheVariants as F
 
@@ -16,7 +16,7 @@ use Rattle.cell_parser.specs.declared.fault.Fault.TheVariants as F
 abbrev pub Comes : List ℕ → State → List Token → State → List Token → Type 0
 Comes text state ts next us = run state (lexemes text ts) ≡ run next (lexemes text us)
 
--- From this state the machine stops where so many tokens are left as the fault says.
+-- From this state the machine stops where this many tokens are left as the fault says.
 abbrev pub Halts : List ℕ → State → List Token → Fault → Type 0
 Halts text state ts e = (left : ℕ) → e ≡ F.Unexpected left → run state (lexemes text ts) ≡ Err left
 

@@ -36,7 +36,10 @@ same_word _ _ = false
 -- the direction that a name spells
 abbrev pub dir_of : List ℕ → Option Dir
 dir_of n =
-    if bytes_eq n (dir_text D.N) then Some D.N else (if bytes_eq n (dir_text D.E) then Some D.E else (if bytes_eq n (dir_text D.S) then Some D.S else (if bytes_eq n (dir_text D.W) then Some D.W else None)))
+    if bytes_eq n (dir_text D.N) then Some D.N
+    else (if bytes_eq n (dir_text D.E) then Some D.E
+    else (if bytes_eq n (dir_text D.S) then Some D.S
+    else (if bytes_eq n (dir_text D.W) then Some D.W else None)))
 
 -- what ends a whole expression
 pub data Closer : Type 0 where
@@ -76,7 +79,7 @@ mutual
     Sums : Open → Open
     -- it may go on as a comparison
     Compares : Open → Open
-    -- it is a whole expression, and a mark behind it leads to a state
+    -- it is a whole expression, and a mark after it leads to a state
     Then : Closer → (Expr → State) → Open
 
   -- what is wanted next
@@ -85,13 +88,13 @@ mutual
     Want : Open → State
     -- an operand without a minus
     WantAtom : Open → State
-    -- what goes on behind a name that is an operand: an index or not
+    -- what goes on after a name that is an operand: an index or not
     Called : List ℕ → Open → State
-    -- what goes on behind an operand
+    -- what goes on after an operand
     Have : Expr → Open → State
-    -- the next statement or the end of the block, behind these statements of it
+    -- the next statement or the end of the block, after these statements of it
     Body : List Stmt → Around → State
-    -- the target of an assignment goes on behind its name
+    -- the target of an assignment goes on after its name
     Target : ℕ → List ℕ → List Stmt → Around → State
     -- this word
     Expect : Word → State → State
@@ -105,19 +108,19 @@ mutual
     ExpectDir : (Dir → State) → State
     -- a route or none, a label or none, and a semicolon
     Route : (List Dir → Option ℕ → State) → State
-    -- further directions behind these, a label or none, and a semicolon
+    -- further directions after these, a label or none, and a semicolon
     Dirs : List Dir → (List Dir → Option ℕ → State) → State
     -- a label or none, and a semicolon
     Label : (Option ℕ → State) → State
     -- a length or none, and a semicolon
     Length : (Option ℕ → State) → State
-    -- a `link`, `message` or `cell` line, behind this part of a source
+    -- a `link`, `message` or `cell` line, after this part of a source
     Links : Source → State
     -- a `message` or `cell` line
     Messages : Source → State
     -- a `cell` line
     Cells : Source → State
-    -- a `var` line or a statement, behind this part of a cell
+    -- a `var` line or a statement, after this part of a cell
     Vars : Source → CellDecl → State
 
 -- a whole expression is wanted
@@ -140,11 +143,11 @@ place f = ExpectNumber (λ r. mark M.Dot (ExpectNumber (λ c. f (record { row = 
 abbrev pub stated : ℕ → Act → List Stmt → Around → State
 stated l act b around = Body (b ++ on_line l act ∷ []) around
 
--- a whole expression is wanted, and a semicolon behind it ends a statement
+-- a whole expression is wanted, and a semicolon after it ends a statement
 abbrev pub ended : ℕ → (Expr → Act) → List Stmt → Around → State
 ended l act b around = whole BySemicolon (λ e. stated l (act e) b around)
 
--- what follows the bracket behind the name in an assignment to an element
+-- what follows the bracket after the name in an assignment to an element
 abbrev pub index : ℕ → List ℕ → List Stmt → Around → State
 index l n b around = whole ByBracket (λ e. mark M.Assign (ended l (λ f. A.SetAt n e f) b around))
 
@@ -240,22 +243,22 @@ abbrev pub at_operand : Word → Open → Option State
 at_operand (Marked M.Minus) k = Some (WantAtom (Negates k))
 at_operand w k = at_atom w k
 
--- what follows a word of this class behind a term, or something else where it does not go on with the term
+-- what follows a word of this class after a term, or something else where it does not go on with the term
 abbrev pub at_terms : Class → Expr → Open → Option State → Option State
 at_terms (Product op) e k other = Some (Want (Operand op e (Terms k)))
 at_terms _ e k other = other
 
--- what follows a word of this class behind a sum, or something else where it does not go on with the sum
+-- what follows a word of this class after a sum, or something else where it does not go on with the sum
 abbrev pub at_sums : Class → Expr → Open → Option State → Option State
 at_sums (Additive op) e k other = Some (Want (Terms (Operand op e (Sums k))))
 at_sums _ e k other = other
 
--- what follows a word of this class behind the left side of a comparison, or something else where it is not compared
+-- what follows a word of this class after the left side of a comparison, or something else where it is not compared
 abbrev pub at_compares : Class → Expr → Open → Option State → Option State
 at_compares (Comparison op) e k other = Some (Want (Terms (Sums (Operand op e k))))
 at_compares _ e k other = other
 
--- what follows a word of this class behind a name that is an operand, or something else where it has no index
+-- what follows a word of this class after a name that is an operand, or something else where it has no index
 abbrev pub at_called : Class → List ℕ → Open → Option State → Option State
 at_called Bracket n k other = Some (whole ByBracket (λ e. Have (E.At n e) k))
 at_called _ n k other = other
@@ -265,7 +268,7 @@ abbrev pub if_same : Bool → State → Option State
 if_same true state = Some state
 if_same false state = None
 
--- what follows a word behind an operand
+-- what follows a word after an operand
 abbrev pub at_open : Expr → Open → Word → Option State
 at_open e (Negates k) w = at_open (E.Negate e) k w
 at_open f (Operand op e k) w = at_open (E.Binary op e f) k w
@@ -274,7 +277,7 @@ at_open e (Sums k) w = at_sums (class w) e k (at_open e k w)
 at_open e (Compares k) w = at_compares (class w) e k (at_open e k w)
 at_open e (Then c f) w = if_same (same_word (Marked (closing c)) w) (f e)
 
--- what follows a word behind statements of a block
+-- what follows a word after statements of a block
 abbrev pub at_body : Word → ℕ → List Stmt → Around → Option State
 at_body (Named n) l b around = Some (Target l n b around)
 at_body (Keyword K.Write) l b around = Some (write l b around)
@@ -286,7 +289,7 @@ at_body (Keyword K.If) l b around = Some (choice l b around)
 at_body (Marked M.CloseBrace) l b around = Some (closed b around)
 at_body _ l b around = None
 
--- what follows a word behind the name of a target on a line
+-- what follows a word after the name of a target on a line
 abbrev pub at_target : Word → ℕ → List ℕ → List Stmt → Around → Option State
 at_target (Marked M.Assign) l n b around = Some (ended l (λ e. A.Set n e) b around)
 at_target (Marked M.OpenBracket) l n b around = Some (index l n b around)
@@ -387,12 +390,13 @@ finish (Messages s) = Ok s
 finish (Cells s) = Ok s
 finish _ = Err 0
 
--- what a run gives from the next state on, or that so many words are left where there is none
+-- what a run gives from the next state on, or that this many words are left where there is none
 abbrev pub going : Option State → (State → Result Source ℕ) → ℕ → Result Source ℕ
 going (Some state) go left = go state
 going None go left = Err left
 
--- the source that words go on to be from a state, or how many words are left where one can't stand or the words end too early
+-- the source that words go on to be from a state, or how many words are left where one can't stand or the words end
+-- too early
 abbrev pub run : State → List Lexeme → Result Source ℕ
 run state [] = finish state
 run state (t ∷ ts) = going (step state t) (λ next. run next ts) (suc (length ts))
