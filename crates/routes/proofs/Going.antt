@@ -10,7 +10,7 @@ use Rattle.routes.specs.declared.error.RouteError.{RouteError}
 use Rattle.routes.specs.declared.error.RouteError.TheVariants as R
 use Rattle.routes.specs.declared.walk.Walk.{Walk}
 use Rattle.routes.specs.Faults.{FaultOf}
-use Rattle.routes.specs.Walking.{HasWalked, HasStepped, IsStop}
+use Rattle.routes.specs.bodies.Walking.{HasWalked, HasStepped, IsStop}
 use Rattle.routes.specs.Walks.{Walks, Differ, IsTrail}
 use Rattle.routes.proofs.Hops.{link_below}
 

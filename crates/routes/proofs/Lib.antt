@@ -5,3 +5,4 @@ pub mod Straight
 pub mod DefaultRoute
 pub mod Counts
 pub mod Outcomes
+pub mod Lengths

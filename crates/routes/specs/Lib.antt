@@ -1,3 +1,3 @@
-pub mod Walks
+pub mod bodies
 pub mod Faults
-pub mod Walking
+pub mod Walks

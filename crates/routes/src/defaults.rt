@@ -18,10 +18,21 @@ pub(crate) fn default_directions(
     ensures directions { IfOk result (λ v. v.items ≡ default_directions grid.now from to) }
     ensures memory { IfErr result (λ e. e ≡ RouteError.Memory) }
 {
-    let cols = u16::from(grid.cols());
     let mut directions = Vec::new(alloc);
-    go_straight(&mut directions, Dir::E, Dir::W, from % cols, to % cols)?;
-    go_straight(&mut directions, Dir::S, Dir::N, from / cols, to / cols)?;
+    go_straight(
+        &mut directions,
+        Dir::E,
+        Dir::W,
+        grid.col(from),
+        grid.col(to),
+    )?;
+    go_straight(
+        &mut directions,
+        Dir::S,
+        Dir::N,
+        grid.row(from),
+        grid.row(to),
+    )?;
     Ok(directions)
 }
 
@@ -30,8 +41,8 @@ fn go_straight(
     directions: &mut Vec<Dir>,
     onward: Dir,
     back: Dir,
-    from: u16,
-    to: u16,
+    from: u8,
+    to: u8,
 ) -> Result<(), RouteError>
     requires { length directions.old.items ≤ 65536 }
     ensures directions { OnOk result (directions.new.items ≡ directions.old.items ++ straight onward back from to) }

@@ -8,5 +8,5 @@ mod route;
 mod walk;
 
 pub use error::RouteError;
-pub use laws::{one_route, path_bounds};
+pub use laws::{one_route, path_bounds, route_lengths};
 pub use route::route_of;

@@ -10,11 +10,12 @@ use crate::walk::links_along;
 use std::alloc::Global;
 use sys_base::{Dir, Grid};
 
-/// The route between two cells of the grid by the given directions, as the ids of its links in order; the default route,
-/// along the row first and then along the column, where no direction is given.
+/// The route between two cells of the grid by the given directions, as the ids of its links in order; the default
+/// route, along the row first and then along the column, where no direction is given.
 ///
-/// A link's id is four times its cell's index and the number of its direction: N 0, E 1, S 2, W 3. An error is the first
-/// fault of the walk, or `Memory`, which may come for any route. The time is linear in the directions and the grid.
+/// A link's id is four times its cell's index and the number of its direction: N 0, E 1, S 2, W 3. An error is the
+/// first fault of the walk, or `Memory`, which may come for any route. The time is linear in the directions and the
+/// grid.
 pub fn route_of(
     alloc: Global,
     grid: &Grid,

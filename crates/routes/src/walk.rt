@@ -1,7 +1,7 @@
 ghost use Rattle.std.specs.Prelude.{◌≡◌, ◌*◌, ◌<◌, ◌⊎◌, [], length, IfOk, IfErr, OnOk};
 ghost use Rattle.sys_base.specs.Grid.{cell_count};
 ghost use Rattle.routes.specs.Faults.{FaultOf};
-ghost use Rattle.routes.specs.Walking.{HasWalked, HasStepped, IsStop};
+ghost use Rattle.routes.specs.bodies.Walking.{HasWalked, HasStepped, IsStop};
 ghost use Rattle.routes.specs.Walks.{IsTrail};
 
 use crate::error::RouteError;

@@ -2,7 +2,7 @@ use Rattle.std.proofs.Common.{get_or, sym, subst, inl}
 use Rattle.std.proofs.lemmas.List.{take_more}
 use Rattle.std.proofs.lemmas.Result.{err_from_is_err_and}
 use Rattle.sys_base.specs.declared.kinds.Dir.TheVariants.{N}
-use Rattle.routes.specs.Walking.{HasWalked}
+use Rattle.routes.specs.bodies.Walking.{HasWalked}
 use Rattle.routes.proofs.Going.{walked_on, stop_in_list, wrong_end}
 use Rattle.routes.proofs.walk.links_along.Goals as goal
 

@@ -1,5 +1,5 @@
 use Rattle.std.proofs.Common.{take}
-use Rattle.routes.specs.Walking.{HasWalked}
+use Rattle.routes.specs.bodies.Walking.{HasWalked}
 use Rattle.routes.proofs.walk.links_along.Given as goal
 
 -- the walk has gone in the directions so far

@@ -26,6 +26,7 @@ pub record HasStepped (g : Extent) (d : Dir) (old new : Walk) : Type 0 where
 abbrev pub IsStop : Extent → Dir → Walk → RouteError → Type 0
 IsStop g d now R.LeavesGrid = neighbour_of g now.cell d ≡ None
 IsStop g d now (R.LinkTwice link) =
-    IsSome (neighbour_of g now.cell d) × (link ≡ link_id now.cell d) × IsTrue (slice_index_or now.used.items link false)
+    IsSome (neighbour_of g now.cell d) × (link ≡ link_id now.cell d)
+    × IsTrue (slice_index_or now.used.items link false)
 IsStop g d now R.WrongEnd = ⊥
 IsStop g d now R.Memory = Unit {0}
