@@ -1,0 +1,14 @@
+pub mod Alone
+pub mod Enabled
+pub mod Frame
+pub mod GroupOf
+pub mod Grouping
+pub mod Holding
+pub mod Machines
+pub mod Meaning
+pub mod Orders
+pub mod Queues
+pub mod Regular
+pub mod Runs
+pub mod States
+pub mod Steps
