@@ -12,11 +12,11 @@ use Rattle.std.proofs.lemmas.Simd.{map-map}
 use Rattle.sys_base.specs.Grid.{Extent, cell_count}
 use Rattle.cell_tree.specs.declared.source.CellDecl.{CellDecl}
 use Rattle.cell_types.specs.Code.{CellCode, End}
-use Rattle.cell_types.specs.Declarations.{place_faults, HasMarks}
+use Rattle.cell_types.specs.bodies.Declarations.{place_faults, HasMarks}
 use Rattle.cell_types.specs.Faults.{faults_behind, var_faults, is_off_grid, cell_faults, IsFirst}
 use Rattle.cell_types.specs.Names.{NamedMessage, total_words, cell_index, extent_of, named_message, scope_of}
 use Rattle.cell_types.specs.Resolved.{cell_with, resolved_block, cell_code, declaration_of, cells_of}
-use Rattle.cell_types.specs.Scopes.{cell_scope, inner_faults, inner_code}
+use Rattle.cell_types.specs.bodies.Scopes.{cell_scope, inner_faults, inner_code}
 use Rattle.cell_types.specs.Statics.{when, block_faults}
 use Rattle.cell_types.specs.Written.{WrittenCell, WrittenSource, written, written_cell, written_block}
 use Rattle.cell_tree.specs.declared.source.Source.{Source}

@@ -9,7 +9,7 @@ use Rattle.cell_types.specs.Code.{CellCode}
 use Rattle.cell_types.specs.Cost.{expression_cost, action_cost, block_cost}
 use Rattle.cell_types.specs.Typed.{action_of, block_of, expression_of, plain_cell}
 use Rattle.cell_types.specs.declared.expression.TypedExpr.{TypedExpr}
-use Rattle.cell_types.specs.declared.cell_program.Cell.{Cell}
+use Rattle.cell_types.specs.declared.cell.Cell.{Cell}
 use Rattle.cell_types.specs.declared.statement.TypedAct.{TypedAct}
 use Rattle.cell_types.specs.declared.statement.TypedAct.TheVariants as T
 use Rattle.cell_types.specs.declared.statement.TypedStmt.{TypedStmt}

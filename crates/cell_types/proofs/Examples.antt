@@ -13,7 +13,7 @@ use Rattle.cell_types.specs.Communications.{Writes, Reads, Emits, communications
 use Rattle.cell_types.specs.Cost.{block_cost, cells_cost}
 use Rattle.cell_types.specs.Depth.{expression_stack}
 use Rattle.cell_types.specs.Faults.{source_faults}
-use Rattle.cell_types.specs.Groups.{bound, groups, need, lengths_of, rising}
+use Rattle.cell_types.specs.Groups.{bound, groups, need, lengths_of, rising, routes_of}
 use Rattle.cell_types.specs.Resolved.{resolved_program}
 use Rattle.cell_types.specs.Written as T
 use Rattle.cell_types.specs.Written.{WrittenExpression, WrittenAction, WrittenStatement, WrittenCell, WrittenSource, in_block}
@@ -125,7 +125,7 @@ one_word_reads = refl
 one_word_nowhere : communications (resolved_program one_word) 2 ≡ []
 one_word_nowhere = refl
 
-one_word_groups : groups (resolved_program one_word) (0 ∷ []) (1 ∷ []) 1 ≡ (0, 0 ∷ []) ∷ []
+one_word_groups : groups (routes_of (resolved_program one_word)) (0 ∷ []) (1 ∷ []) 1 ≡ (0, 0 ∷ []) ∷ []
 one_word_groups = refl
 
 one_word_bound : bound (resolved_program one_word) (0 ∷ []) ≡ 6
@@ -145,23 +145,23 @@ two_messages_lengths : lengths_of (resolved_program two_messages) ≡ 2 ∷ 1 �
 two_messages_lengths = refl
 
 -- Messages of different labels use a queue one after the other, and those of one label together.
-two_groups : groups (resolved_program two_messages) (0 ∷ 1 ∷ []) (2 ∷ 1 ∷ []) 1 ≡ (0, 0 ∷ []) ∷ (1, 1 ∷ []) ∷ []
+two_groups : groups (routes_of (resolved_program two_messages)) (0 ∷ 1 ∷ []) (2 ∷ 1 ∷ []) 1 ≡ (0, 0 ∷ []) ∷ (1, 1 ∷ []) ∷ []
 two_groups = refl
 
-one_group : groups (resolved_program two_messages) (3 ∷ 3 ∷ []) (2 ∷ 1 ∷ []) 1 ≡ (3, 0 ∷ 1 ∷ []) ∷ []
+one_group : groups (routes_of (resolved_program two_messages)) (3 ∷ 3 ∷ []) (2 ∷ 1 ∷ []) 1 ≡ (3, 0 ∷ 1 ∷ []) ∷ []
 one_group = refl
 
-two_groups_need : need (resolved_program two_messages) (0 ∷ 1 ∷ []) (2 ∷ 1 ∷ []) 1 ≡ 1
+two_groups_need : need (routes_of (resolved_program two_messages)) (0 ∷ 1 ∷ []) (2 ∷ 1 ∷ []) 1 ≡ 1
 two_groups_need = refl
 
-one_group_needs : need (resolved_program two_messages) (3 ∷ 3 ∷ []) (2 ∷ 1 ∷ []) 1 ≡ 2
+one_group_needs : need (routes_of (resolved_program two_messages)) (3 ∷ 3 ∷ []) (2 ∷ 1 ∷ []) 1 ≡ 2
 one_group_needs = refl
 
 -- A message of length 0 is in no group.
-empty_message : groups (resolved_program two_messages) (3 ∷ 1 ∷ []) (2 ∷ 0 ∷ []) 1 ≡ (3, 0 ∷ []) ∷ []
+empty_message : groups (routes_of (resolved_program two_messages)) (3 ∷ 1 ∷ []) (2 ∷ 0 ∷ []) 1 ≡ (3, 0 ∷ []) ∷ []
 empty_message = refl
 
-unused_link : need (resolved_program two_messages) (0 ∷ 1 ∷ []) (2 ∷ 1 ∷ []) 7 ≡ 0
+unused_link : need (routes_of (resolved_program two_messages)) (0 ∷ 1 ∷ []) (2 ∷ 1 ∷ []) 7 ≡ 0
 unused_link = refl
 
 two_messages_bound : bound (resolved_program two_messages) (0 ∷ 1 ∷ []) ≡ 13

@@ -2,7 +2,7 @@
 use Rattle.std.proofs.Common.{◌≡◌, Bool, true, false, List, [], ◌∷◌, ◌++◌, refl, sym, ap, subst, ◌∙◌, inl, inr}
 use Rattle.std.specs.Prelude.{Result, Ok, Err, IsErrAnd}
 use Rattle.cell_types.specs.Faults.{IsFirst}
-use Rattle.cell_types.specs.Scopes.{Resolves}
+use Rattle.cell_types.specs.bodies.Scopes.{Resolves}
 use Rattle.cell_types.specs.Statics.{when}
 use Rattle.cell_types.specs.declared.error.StaticError.{StaticError}
 use Rattle.cell_types.specs.declared.error.StaticError.TheVariants as E

@@ -1,9 +1,9 @@
 pub mod Behind
 pub mod CellLoop
 pub mod CostSteps
-pub mod DepthsAgree
 pub mod Examples
 pub mod FaultExamples
+pub mod FewCommunications
 pub mod FirstFaults
 pub mod FirstPlaces
 pub mod LinkQueues
@@ -17,6 +17,10 @@ pub mod Paths
 pub mod Places
 pub mod Ranges
 pub mod RouteFound
+pub mod SizeExamples
+pub mod Sizes
+pub mod SoloExamples
+pub mod SoloMade
 pub mod SoundBodies
 pub mod SoundCells
 pub mod SoundExample

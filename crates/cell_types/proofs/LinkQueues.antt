@@ -6,7 +6,7 @@ use Rattle.sys_base.specs.declared.kinds.Dir.{Dir}
 use Rattle.sys_base.specs.declared.kinds.Dir.TheVariants as D
 use Rattle.sys_base.specs.Grid.{Extent, cell_count, neighbour_of, link_id}
 use Rattle.cell_tree.specs.declared.source.LinkDecl.{LinkDecl}
-use Rattle.cell_types.specs.Declarations.{HasQueuesOf, own_queues}
+use Rattle.cell_types.specs.bodies.Declarations.{HasQueuesOf, own_queues}
 use Rattle.cell_types.specs.Faults.{declared_link}
 use Rattle.cell_types.specs.Names.{extent_of}
 use Rattle.cell_types.specs.Resolved.{queues_of}

@@ -8,7 +8,7 @@ use Rattle.std.proofs.lemmas.List.Elements.{All-push, All-head, All-tail}
 use Rattle.std.proofs.lemmas.List.Folds.{find-append}
 use Rattle.sys_base.specs.Grid.{Extent, cell_count, neighbour_of}
 use Rattle.cell_tree.specs.declared.source.LinkDecl.{LinkDecl}
-use Rattle.cell_types.specs.Declarations.{HasOwnQueues, own_queues, count_faults}
+use Rattle.cell_types.specs.bodies.Declarations.{HasOwnQueues, own_queues, count_faults}
 use Rattle.cell_types.specs.Faults.{link_faults, declared_link, is_off_grid, IsFirst}
 use Rattle.cell_types.specs.Names.{cell_index}
 use Rattle.cell_types.specs.Statics.{when}

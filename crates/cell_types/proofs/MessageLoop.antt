@@ -5,13 +5,13 @@ use Rattle.std.specs.Option.{option_map_or}
 use Rattle.sys_base.specs.Grid.{Extent}
 use Rattle.sys_base.specs.declared.kinds.Limit.TheVariants as L
 use Rattle.cell_tree.specs.declared.source.MessageDecl.{MessageDecl}
-use Rattle.cell_types.specs.Declarations.{naming_faults, names_of, ends_faults, ends_of, way_faults, message_between}
+use Rattle.cell_types.specs.bodies.Declarations.{naming_faults, names_of, ends_faults, ends_of, way_faults, message_between}
 use Rattle.cell_types.specs.Faults.{faults_behind, message_faults, route_faults, is_off_grid, IsFirst}
 use Rattle.cell_types.specs.Names.{named_message, cell_index, is_among}
 use Rattle.cell_types.specs.Route.{route_between}
 use Rattle.cell_types.specs.Statics.{when}
 use Rattle.cell_types.specs.Resolved.{resolved_message}
-use Rattle.cell_types.specs.Tables.{named_with}
+use Rattle.cell_types.specs.bodies.Tables.{named_with}
 use Rattle.cell_types.specs.declared.error.StaticError.{StaticError}
 use Rattle.cell_types.specs.declared.error.StaticError.TheVariants as E
 use Rattle.cell_types.specs.declared.error.What.TheVariants as W

@@ -9,12 +9,12 @@ use Rattle.routes.specs.declared.error.RouteError.TheVariants as Q
 use Rattle.routes.specs.Faults.{IsFault}
 use Rattle.routes.specs.Walks.{IsRoute}
 use Rattle.cell_tree.specs.declared.source.MessageDecl.{MessageDecl}
-use Rattle.cell_types.specs.Declarations.{walked_with, naming_faults}
+use Rattle.cell_types.specs.bodies.Declarations.{naming_faults}
 use Rattle.cell_types.specs.Faults.{route_faults, IsFirst}
 use Rattle.cell_types.specs.Names.{is_among}
 use Rattle.cell_types.specs.Resolved.{links_of}
-use Rattle.cell_types.specs.Route.{route_between}
-use Rattle.cell_types.specs.Scopes.{place_of}
+use Rattle.cell_types.specs.Route.{route_between, walked_with}
+use Rattle.cell_types.specs.bodies.Scopes.{place_of}
 use Rattle.cell_types.specs.Statics.{when}
 use Rattle.cell_types.specs.declared.error.StaticError.{StaticError}
 use Rattle.cell_types.specs.declared.error.StaticError.TheVariants as E

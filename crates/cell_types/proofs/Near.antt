@@ -1,5 +1,5 @@
--- The first fault of a source names cells and links with rows and columns below 16.
-use Rattle.std.proofs.Common.{◌≡◌, ℕ, ◌*◌, ◌/◌, ◌<◌, ◌≤◌, Bool, true, false, not, ◌||◌, List, [], ◌∷◌, ◌++◌, Option, Some, None, Result, Ok, Err, IfErr, is_none, is_some, nat_eq, nat_lt, nat_le, length, map, refl, sym, subst, inl, inr, arith}
+-- The first fault of a source names cells and links with rows and columns that some grid has, and it is no want of memory.
+use Rattle.std.proofs.Common.{◌≡◌, ℕ, ◌*◌, ◌/◌, ◌<◌, ◌≤◌, Bool, true, false, not, ◌||◌, ◌⊎◌, List, [], ◌∷◌, ◌++◌, slice_get, Option, Some, None, Result, Ok, Err, IfErr, is_none, is_some, nat_eq, nat_lt, nat_le, length, map, refl, sym, subst, inl, inr, arith}
 use Rattle.std.specs.List.{list_any}
 use Rattle.std.specs.Option.{option_map_or}
 use Rattle.std.specs.Prelude.{if◌then◌else◌}
@@ -26,22 +26,43 @@ use Rattle.cell_types.proofs.SoundGrid.{grid_kept}
 use Rattle.cell_types.proofs.SoundMessages.{on_grid}
 use Rattle.cell_types.proofs.Paths.{PathLaws}
 use Rattle.routes.specs.Walks.{directions}
-use Rattle.cell_types.specs.Near.{IsNear, NamesNear}
+use Rattle.cell_types.specs.Near.{IsNear, IsWhatNear, NamesNear}
 
 -- ---- the first of some faults
 
--- The first of the faults, if there is one, names what is near.
+-- A fault of a source names what is near, and it is no want of memory.
+abbrev IsTold : ℕ → StaticError → Type 0
+IsTold cols S.Memory = ⊥
+IsTold cols (S.Twice what line) = IsWhatNear cols what
+IsTold cols (S.WrongEnd name cell sends line) = IsNear cols cell
+IsTold cols (S.Route name (P.LinkTwice link) line) = IsNear cols (link / 4)
+IsTold cols _ = Unit {0}
+
+told_near : (cols : ℕ) (e : StaticError) → IsTold cols e → NamesNear cols e
+told_near cols S.Memory h = absurd h
+told_near cols (S.Twice what line) h = h
+told_near cols (S.WrongEnd name cell sends line) h = h
+told_near cols (S.Route name (P.LinkTwice link) line) h = h
+told_near cols (S.Route name P.LeavesGrid line) h = tt
+told_near cols (S.Route name P.WrongEnd line) h = tt
+told_near cols (S.Limit limit line) h = tt
+told_near cols (S.OutsideGrid line) h = tt
+told_near cols (S.SelfMessage name line) h = tt
+told_near cols (S.Unknown name line) h = tt
+told_near cols (S.WrongKind name found line) h = tt
+
+-- The first of the faults, if there is one, is such a fault.
 abbrev Begins : ℕ → List StaticError → Type 0
 Begins cols [] = Unit {0}
-Begins cols (e ∷ es) = NamesNear cols e
+Begins cols (e ∷ es) = IsTold cols e
 
 -- the first of two lists of faults
 begins_append : (cols : ℕ) (xs ys : List StaticError) → Begins cols xs → (xs ≡ [] → Begins cols ys) → Begins cols (xs ++ ys)
 begins_append cols [] ys h k = k refl
 begins_append cols (x ∷ xs) ys h k = h
 
--- a check whose fault names what is near
-begins_when : (cols : ℕ) (b : Bool) (e : StaticError) → NamesNear cols e → Begins cols (when b e)
+-- a check with such a fault
+begins_when : (cols : ℕ) (b : Bool) (e : StaticError) → IsTold cols e → Begins cols (when b e)
 begins_when cols true e h = h
 begins_when cols false e h = tt
 
@@ -297,7 +318,7 @@ sources laws s =
 -- the first of a list
 first_near : (cols : ℕ) (fs : List StaticError) (e : StaticError) → Begins cols fs → IsFirst fs e → NamesNear cols e
 first_near cols [] e h same = subst (NamesNear cols) (sym same) tt
-first_near cols (f ∷ fs) e h (inl same) = subst (NamesNear cols) (sym same) h
+first_near cols (f ∷ fs) e h (inl same) = subst (NamesNear cols) (sym same) (told_near cols f h)
 first_near cols (f ∷ fs) e h (inr memory) = subst (NamesNear cols) (sym memory) tt
 
 -- the first fault of a source, or want of memory
@@ -309,3 +330,14 @@ pub error_near : {V : Type 0} → PathLaws → (s : Source) (made : Result V Sta
     → IfErr made (NamesNear s.cols)
 error_near laws s (Ok v) h = tt
 error_near laws s (Err e) h = fault_near laws s e h
+
+-- faults are none, or the first of them is no want of memory
+first_of : (cols : ℕ) (fs : List StaticError) → Begins cols fs
+    → (fs ≡ []) ⊎ ((e : StaticError) × (slice_get fs 0 ≡ Some e) × (e ≡ S.Memory → ⊥))
+first_of cols [] h = inl refl
+first_of cols (e ∷ es) h = inr (e, refl, λ is. subst (IsTold cols) is h)
+
+-- a source has no fault, or a first one
+pub first_fault : PathLaws → (s : Source)
+    → (faults s ≡ []) ⊎ ((e : StaticError) × (slice_get (faults s) 0 ≡ Some e) × (e ≡ S.Memory → ⊥))
+first_fault laws s = first_of s.cols (faults s) (sources laws (written s))

@@ -7,7 +7,7 @@ use Rattle.cell_types.specs.Cost.{action_cost, block_cost}
 use Rattle.cell_types.specs.Depth.{action_loops, action_stack, block_loops, block_stack}
 use Rattle.cell_types.specs.Names.{Scope}
 use Rattle.cell_types.specs.Resolved.{resolved_block}
-use Rattle.cell_types.specs.Scopes.{block_from}
+use Rattle.cell_types.specs.bodies.Scopes.{block_from}
 use Rattle.cell_types.specs.Typed.{action_of, block_of}
 use Rattle.cell_types.specs.Written.{written_block}
 use Rattle.cell_types.specs.declared.statement.TypedStmt.{TypedStmt}

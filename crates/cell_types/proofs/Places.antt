@@ -9,7 +9,7 @@ use Rattle.std.proofs.lemmas.Bool.Decides.{nat_tests}
 use Rattle.std.proofs.lemmas.List.{map_push}
 use Rattle.std.proofs.lemmas.Slice.Eq.{bytes_eq-Decides}
 use Rattle.cell_types.specs.Names.{NamedVariable}
-use Rattle.cell_types.specs.Scopes.{place_of, variable_with, variables_with}
+use Rattle.cell_types.specs.bodies.Scopes.{place_of, variable_with, variables_with}
 use Rattle.cell_types.specs.declared.variables.Slot.{Slot}
 use Rattle.cell_types.proofs.FirstPlaces.{bytes_eq_comm, position_agree, position-map, is_some-position}
 

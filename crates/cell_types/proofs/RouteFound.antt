@@ -11,8 +11,7 @@ use Rattle.routes.specs.declared.error.RouteError.{RouteError}
 use Rattle.routes.specs.declared.error.RouteError.TheVariants as E
 use Rattle.routes.specs.Faults.{FaultOf, IsFault, ComesTo}
 use Rattle.routes.specs.Walks.{directions, Walks, Differ, IsTrail, IsRoute}
-use Rattle.cell_types.specs.Declarations.{walked_with}
-use Rattle.cell_types.specs.Route.{Walked, hop, walk_on, route_between}
+use Rattle.cell_types.specs.Route.{Walked, hop, walk_on, route_between, walked_with}
 use Rattle.cell_types.specs.declared.error.RouteFault.TheVariants as R
 
 -- where all links differ, the one behind some is none of those

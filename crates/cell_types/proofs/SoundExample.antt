@@ -34,6 +34,7 @@ sound zero d within = record {
   apart = λ same. cc;
   path = record { leads = (E ∷ [], (refl, 1, refl, refl)); differ = λ i j d i_j j_1. absurd (omega arith) };
   some = omega arith;
+  short = omega arith;
   links = λ i d within. one_link i d within;
   label = tt;
 }

@@ -1,14 +1,15 @@
 -- The messages of a source without faults.
 use Rattle.std.proofs.Common.{◌≡◌, ◌≢◌, ℕ, ◌+◌, ◌<◌, ◌≤◌, Bool, false, Option, Some, None, List, [], ◌∷◌, ◌++◌, Ok, Err, length, map, All, AllPairs, refl, sym, ap, ◌∙◌, subst, arith, append-nil, append_assoc, length-append, nat_eq, nat_le, nat_lt, ltb-true, ltb-false, leb-false, bytes_eq, IfSome}
 use Rattle.std.proofs.lemmas.Bool.{eqb-false, not-false, and_parts, or_parts, both_ways}
-use Rattle.std.proofs.lemmas.List.Elements.{All-from_recursion}
+use Rattle.std.proofs.lemmas.List.Elements.{All-from_recursion, recursion_from_All}
 use Rattle.std.proofs.lemmas.List.Quantifiers.{all_pairs_push}
 use Rattle.std.proofs.lemmas.Nat.{mul-add-lt}
 use Rattle.std.proofs.lemmas.Slice.Eq.{bytes_eq-Decides}
 use Rattle.std.specs.List.{AllByRecursion}
 use Rattle.std.specs.Option.{option_map_or}
+use Rattle.sys_base.specs.declared.kinds.Dir.{Dir}
 use Rattle.sys_base.specs.declared.kinds.Limit.TheVariants as L
-use Rattle.sys_base.specs.Grid.{Extent, cell_count}
+use Rattle.sys_base.specs.Grid.{Extent, IsExtent, cell_count}
 use Rattle.routes.specs.Walks.{directions, IsRoute, IsPath}
 use Rattle.cell_tree.specs.declared.source.MessageDecl.{MessageDecl}
 use Rattle.cell_tree.specs.declared.source.Place.{Place}
@@ -80,38 +81,47 @@ line_kept g earlier m h =
       label = label_kept m.label label.1;
     }
 
--- a message by its line
-message_kept : PathLaws → (g : Extent) (earlier : List MessageDecl) (m : MessageDecl) → message_faults g earlier m ≡ []
-    → IsSoundMessage g (resolved_message g m)
-message_kept laws g earlier m h =
+-- a route by few directions, or by none, has few links
+route_short : PathLaws → (g : Extent) → IsExtent g → (from to : ℕ) (given : List Dir) (links : List ℕ) → from < cell_count g
+    → to < cell_count g → length given ≤ 256 → IsRoute g from to given links → length links ≤ 256
+route_short laws g grid from to [] links f t few r =
+    omega (arith, laws.default g from to links f t r, grid.most_rows, grid.most_cols)
+route_short laws g grid from to (d ∷ ds) links f t few r = omega (arith, laws.given g from to d ds links r, few)
+
+-- a message by its line, where few directions are given
+message_kept : PathLaws → (g : Extent) → IsExtent g → (earlier : List MessageDecl) (m : MessageDecl) → message_faults g earlier m ≡ []
+    → length m.route ≤ 256 → IsSoundMessage g (resolved_message g m)
+message_kept laws g grid earlier m h few =
     let kept : IsKept g earlier m = line_kept g earlier m h in
-    let links : List ℕ = links_of (route_between g (cell_index g m.from) (cell_index g m.to) m.route) in
-    let route : IsRoute g (cell_index g m.from) (cell_index g m.to) m.route links =
-    route_kept g (cell_index g m.from) (cell_index g m.to) m.route links kept.route in
-    let path : IsPath g (cell_index g m.from) links (cell_index g m.to) =
-    record { leads = (directions g (cell_index g m.from) (cell_index g m.to) m.route, route.walk); differ = route.differ } in
+    let from : ℕ = cell_index g m.from in
+    let to : ℕ = cell_index g m.to in
+    let links : List ℕ = links_of (route_between g from to m.route) in
+    let route : IsRoute g from to m.route links = route_kept g from to m.route links kept.route in
+    let path : IsPath g from links to = record { leads = (directions g from to m.route, route.walk); differ = route.differ } in
     record {
       sender = kept.from;
       receiver = kept.to;
       apart = kept.apart;
       path = path;
-      some = laws.some g (cell_index g m.from) (cell_index g m.to) links kept.apart path;
-      links = laws.each g (cell_index g m.from) (cell_index g m.to) links kept.from path;
+      some = laws.some g from to links kept.apart path;
+      short = route_short laws g grid from to m.route links kept.from kept.to few route;
+      links = laws.each g from to links kept.from path;
       label = kept.label;
     }
 
--- what holds of each resolved message
-mapped : (g : Extent) (ms : List MessageDecl) → AllByRecursion (λ m. IsSoundMessage g (resolved_message g m)) ms
-    → AllByRecursion (IsSoundMessage g) (map (resolved_message g) ms)
-mapped g [] h = tt
-mapped g (m ∷ ms) h = (h.0, mapped g ms h.1)
+-- what holds of each message whose directions are few holds of each resolved message
+mapped : (g : Extent) (ms : List MessageDecl) → AllByRecursion (λ m. length m.route ≤ 256 → IsSoundMessage g (resolved_message g m)) ms
+    → AllByRecursion (λ m. length m.route ≤ 256) ms → AllByRecursion (IsSoundMessage g) (map (resolved_message g) ms)
+mapped g [] h few = tt
+mapped g (m ∷ ms) h few = (h.0 few.0, mapped g ms h.1 few.1)
 
 -- each message is sound
-pub messages_kept : PathLaws → (g : Extent) (ms : List MessageDecl) → faults_behind (message_faults g) [] ms ≡ []
-    → All (IsSoundMessage g) (map (resolved_message g) ms)
-messages_kept laws g ms h =
+pub messages_kept : PathLaws → (g : Extent) → IsExtent g → (ms : List MessageDecl) → faults_behind (message_faults g) [] ms ≡ []
+    → All (λ m. length m.route ≤ 256) ms → All (IsSoundMessage g) (map (resolved_message g) ms)
+messages_kept laws g grid ms h few =
     All-from_recursion (IsSoundMessage g) (map (resolved_message g) ms)
-    (mapped g ms (each_kept (message_faults g) (λ m. IsSoundMessage g (resolved_message g m)) (message_kept laws g) [] ms h))
+    (mapped g ms (each_kept (message_faults g) (λ m. length m.route ≤ 256 → IsSoundMessage g (resolved_message g m))
+    (message_kept laws g grid) [] ms h) (recursion_from_All (λ m. length m.route ≤ 256) ms few))
 
 -- messages behind others are few together with those
 few_behind : (g : Extent) (earlier ms : List MessageDecl) → faults_behind (message_faults g) earlier ms ≡ [] → length earlier ≤ 512

@@ -1,9 +1,9 @@
 -- A printable source without faults gives a sound program.
-use Rattle.std.proofs.Common.{◌≡◌, ◌≤◌, ◌++◌, List, [], ◌∷◌, map, All, subst, sym}
+use Rattle.std.proofs.Common.{◌≡◌, ◌≤◌, ◌++◌, List, [], ◌∷◌, length, map, All, subst, sym}
 use Rattle.std.proofs.lemmas.List.Elements.{recursion_from_All}
 use Rattle.std.specs.List.{AllByRecursion, flat_map}
-use Rattle.sys_base.specs.Grid.{Extent, cell_count}
-use Rattle.cell_tree.specs.Depth.{greatest, statement_stack, statement_loops, cell_stack, cell_loops}
+use Rattle.sys_base.specs.Grid.{Extent, IsExtent, cell_count}
+use Rattle.cell_tree.specs.Depth.{cell_stack, cell_loops}
 use Rattle.cell_tree.specs.Printable.{given, place_numbers, link_numbers, message_numbers, cell_numbers, source_numbers, statement_numbers, IsPrintable}
 use Rattle.cell_tree.specs.declared.source.CellDecl.{CellDecl}
 use Rattle.cell_tree.specs.declared.source.Source.{Source}
@@ -12,7 +12,7 @@ use Rattle.cell_types.specs.Faults.{faults, faults_behind, array_faults, queues_
 use Rattle.cell_types.specs.Names.{extent_of}
 use Rattle.cell_types.specs.Resolved.{program_of}
 use Rattle.cell_types.specs.Sound.{IsSound}
-use Rattle.cell_types.specs.Written.{WrittenSource, written_block, written_cell, written}
+use Rattle.cell_types.specs.Written.{WrittenSource, written_cell, written}
 use Rattle.cell_types.specs.declared.error.StaticError.{StaticError}
 use Rattle.cell_types.proofs.NoFaults.{none_front, none_back}
 use Rattle.cell_types.proofs.SoundCells.{IsShallow, cells_kept, cells_length}
@@ -20,13 +20,12 @@ use Rattle.cell_types.proofs.Paths.{PathLaws}
 use Rattle.cell_types.proofs.SoundGrid.{grid_kept, queues_kept, queues_length}
 use Rattle.cell_types.proofs.SoundMessages.{messages_kept, messages_few, names_differ}
 use Rattle.cell_types.proofs.WrittenNumbers.{Small, small_front, small_back}
-use Rattle.cell_types.proofs.WrittenTrees.{BlockKeeps, block_keeps}
+use Rattle.cell_types.proofs.WrittenTrees.{block_keeps}
 
 -- a cell of the tree as plain data
 shallow : (c : CellDecl) → cell_stack c ≤ 256 → cell_loops c ≤ 16 → Small (cell_numbers c) → IsShallow (written_cell c)
 shallow c stack loops small =
-    let keeps : BlockKeeps (written_block c.body) (greatest (map statement_stack c.body)) (greatest (map statement_loops c.body))
-    (flat_map statement_numbers c.body) = block_keeps c.body in
+    let keeps = block_keeps c.body in
     record {
       stack = λ scope. subst (λ n. n ≤ 256) (sym (keeps.in_stack scope)) stack;
       loops = λ scope. subst (λ n. n ≤ 16) (sym (keeps.in_loops scope)) loops;
@@ -53,8 +52,9 @@ cells_small source printable =
 
 -- a printable source without faults gives a program that keeps all that the type of programs keeps
 pub sound : PathLaws → (source : Source) → IsPrintable source → faults source ≡ [] → All (λ cell. cell_stack cell ≤ 256) source.cells
-    → All (λ cell. cell_loops cell ≤ 16) source.cells → IsSound (program_of source)
-sound laws source printable h stack loops =
+    → All (λ cell. cell_loops cell ≤ 16) source.cells → All (λ message. length message.route ≤ 256) source.messages
+    → IsSound (program_of source)
+sound laws source printable h stack loops short =
     let s : WrittenSource = written source in
     let g : Extent = extent_of s in
     let links : List StaticError = faults_behind (link_faults g) [] s.links in
@@ -64,14 +64,15 @@ sound laws source printable h stack loops =
     let before_messages = none_front (array_faults s ++ queues_faults s ++ links) messages before_cells in
     let before_links = none_front (array_faults s ++ queues_faults s) links before_messages in
     let no_messages = none_back (array_faults s ++ queues_faults s ++ links) messages before_cells in
+    let grid : IsExtent g = grid_kept s (none_front (array_faults s) (queues_faults s) before_links) in
     record {
-      grid = grid_kept s (none_front (array_faults s) (queues_faults s) before_links);
+      grid = grid;
       links = queues_length s 0 (cell_count g);
       queues = queues_kept s (none_back (array_faults s) (queues_faults s) before_links)
           (none_back (array_faults s ++ queues_faults s) links before_messages);
       few = messages_few g s.messages no_messages;
       names = names_differ g s.messages no_messages;
-      messages = messages_kept laws g s.messages no_messages;
+      messages = messages_kept laws g grid s.messages no_messages short;
       all = cells_length s;
       cells = cells_kept s (none_back (array_faults s ++ queues_faults s ++ links ++ messages) cells h)
           (all_shallow source.cells (recursion_from_All (λ c. cell_stack c ≤ 256) source.cells stack)

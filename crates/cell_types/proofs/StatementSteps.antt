@@ -8,7 +8,7 @@ use Rattle.cell_types.specs.Depth.{action_loops, block_loops}
 use Rattle.cell_types.specs.Faults.{IsFirst}
 use Rattle.cell_types.specs.Names.{Scope, meaning, inside_loop}
 use Rattle.cell_types.specs.Resolved.{resolved_expression, resolved_action, resolved_block}
-use Rattle.cell_types.specs.Scopes.{written_action, block_from}
+use Rattle.cell_types.specs.bodies.Scopes.{written_action, block_from}
 use Rattle.cell_types.specs.Statics.{when, expression_faults, action_faults, block_faults}
 use Rattle.cell_types.specs.Typed.{expression_of, action_of, block_of}
 use Rattle.cell_types.specs.Written as T

@@ -9,10 +9,10 @@ use Rattle.std.proofs.lemmas.Option.{slice_get-get_or}
 use Rattle.std.proofs.lemmas.Slice.Eq.{bytes_eq-Decides}
 use Rattle.std.proofs.lemmas.Slice.Zip.{firsts-zip, seconds-zip}
 use Rattle.cell_types.specs.Names.{NamedMessage}
-use Rattle.cell_types.specs.Tables.{named_with, index_named, message_with_name}
+use Rattle.cell_types.specs.bodies.Tables.{named_with, index_named, message_with_name}
 use Rattle.cell_types.specs.declared.table.Ends.{Ends}
 use Rattle.cell_types.proofs.FirstPlaces.{position-map, find_at_place, find_nowhere}
-use Rattle.cell_types.specs.Scopes.{place_of}
+use Rattle.cell_types.specs.bodies.Scopes.{place_of}
 
 -- the messages of these keys and ends
 abbrev pub named : List (Bor (List ℕ)) → List Ends → List NamedMessage

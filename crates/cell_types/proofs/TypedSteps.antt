@@ -3,7 +3,7 @@ use Rattle.std.proofs.Common.{◌≡◌, ℕ, ◌+◌, ◌<◌, Vec, Global, Lis
 use Rattle.std.proofs.lemmas.List.{drop_more}
 use Rattle.cell_types.specs.Code as C
 use Rattle.cell_types.specs.Code.{Block}
-use Rattle.cell_types.specs.Scopes.{block_from}
+use Rattle.cell_types.specs.bodies.Scopes.{block_from}
 use Rattle.cell_types.specs.Typed.{expression_of, action_of, inner_block, block_of}
 use Rattle.cell_types.specs.declared.expression.TypedExpr.{TypedExpr}
 use Rattle.cell_types.specs.declared.statement.TypedAct.{TypedAct, Row_of-TypedStmt, end_of-TypedStmt, more_of-TypedStmt, the_lemmas}

@@ -11,9 +11,9 @@ use Rattle.sys_base.specs.declared.kinds.Limit.TheVariants as L
 use Rattle.cell_tree.specs.declared.source.VarDecl.{VarDecl}
 use Rattle.cell_types.specs.Faults.{IsFirst, faults_behind, var_faults}
 use Rattle.cell_types.specs.Names.{NamedMessage, is_among, placed_from, total_words, words_of}
-use Rattle.cell_types.specs.Scopes.{place_of, variable_with, variables_with, variables_faults}
+use Rattle.cell_types.specs.bodies.Scopes.{place_of, variable_with, variables_with, variables_faults}
 use Rattle.cell_types.specs.Statics.{when}
-use Rattle.cell_types.specs.Tables.{index_named}
+use Rattle.cell_types.specs.bodies.Tables.{index_named}
 use Rattle.cell_types.specs.declared.error.StaticError.{StaticError}
 use Rattle.cell_types.specs.declared.error.StaticError.TheVariants as E
 use Rattle.cell_types.specs.declared.error.What.TheVariants as W

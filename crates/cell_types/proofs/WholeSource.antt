@@ -7,7 +7,7 @@ use Rattle.cell_tree.specs.Printable.{IsPrintable}
 use Rattle.cell_tree.specs.declared.source.LinkDecl.{LinkDecl}
 use Rattle.cell_tree.specs.declared.source.MessageDecl.{MessageDecl}
 use Rattle.cell_tree.specs.declared.source.Source.{Source}
-use Rattle.cell_types.specs.Declarations.{count_faults}
+use Rattle.cell_types.specs.bodies.Declarations.{count_faults}
 use Rattle.cell_types.specs.Faults.{array_faults, queues_faults, faults_behind, link_faults, message_faults, cell_faults, faults}
 use Rattle.cell_types.specs.Names.{extent_of}
 use Rattle.cell_types.specs.Resolved.{program_of, resolved_message}
@@ -17,7 +17,7 @@ use Rattle.cell_types.specs.Written.{WrittenSource, written}
 use Rattle.cell_types.specs.declared.error.StaticError.{StaticError}
 use Rattle.cell_types.specs.declared.error.StaticError.TheVariants as E
 use Rattle.cell_types.specs.declared.program.Message.{Message}
-use Rattle.cell_types.specs.declared.cell_program.Cell.{Cell}
+use Rattle.cell_types.specs.declared.cell.Cell.{Cell}
 use Rattle.cell_types.proofs.FirstFaults.{none_joined, when_passes}
 
 module _ (source : Source) (printable : IsPrintable source) where

@@ -13,7 +13,7 @@ use Rattle.cell_tree.specs.declared.statement.Act.TheVariants as A
 use Rattle.cell_tree.specs.declared.statement.Act.TheVariants.{rolls-Set, rolls-SetAt, rolls-Write, rolls-Read, rolls-Take, rolls-Emit, rolls-For, rolls-If}
 use Rattle.cell_tree.specs.declared.statement.Act.TheViews.{roll-Act}
 use Rattle.cell_tree.specs.declared.statement.Stmt.{Stmt}
-use Rattle.cell_types.specs.Scopes.{written_action}
+use Rattle.cell_types.specs.bodies.Scopes.{written_action}
 use Rattle.cell_types.specs.Written as T
 use Rattle.cell_types.specs.Written.{WrittenExpression, WrittenAction, WrittenStatement, WrittenBlock, expression_step, act_step, statement_step, written_expression, written_statement, written_block}
 

@@ -31,8 +31,8 @@ mutual
     End : Block
     Then : (line : ℕ) → (action : Action) → (rest : Block) → Block
 
--- the program of one cell: the words of its variables, the most loops inside one another, the deepest stack that it needs,
--- and its statements
+-- the program of one cell: the words of its variables, the most loops inside one another, the deepest stack that it
+-- needs, and its statements
 pub record CellCode : Type 0 where
   pub words : ℕ
   pub counters : ℕ

@@ -1,18 +1,8 @@
 -- What cells communicate: their lists of writes, reads, takes and emits, by unrolling.
-use Rattle.std.specs.Prelude.{ℕ, Bool, true, false, List, [], ◌∷◌, ◌++◌, nat_eq, count_by, slice_get, flat_map, replicate}
+pub use Rattle.sys_base.specs.Communications.{Communication, Writes, Reads, Takes, Emits, copies, same_communication, times}
+use Rattle.std.specs.Prelude.{ℕ, List, [], ◌∷◌, ◌++◌, slice_get, flat_map}
 use Rattle.std.specs.Option.{option_map_or}
 use Rattle.cell_types.specs.Code.{Action, Set, SetAt, Write, Read, Take, Emit, For, If, Block, End, Then, CellCode, ProgramCode}
-
--- one communication: a message is written or read, an input word is taken, or an output word is emitted
-pub data Communication : Type 0 where
-  Writes : (message : ℕ) → Communication
-  Reads : (message : ℕ) → Communication
-  Takes : Communication
-  Emits : Communication
-
--- so many copies of a list, one after another
-abbrev pub copies : ℕ → List Communication → List Communication
-copies n list = flat_map (λ copy. copy) (replicate n list)
 
 abbrev mutual
   -- the communications of an action: those of a loop are copies of its body's, those of an `if` are its first arm's
@@ -33,19 +23,8 @@ abbrev mutual
 
 -- the communications of a cell of a program, and none outside its cells
 abbrev pub communications : ProgramCode → ℕ → List Communication
-communications program cell = option_map_or (λ (c : CellCode). block_communications c.body) (slice_get program.cells cell) []
-
--- whether two communications are the same
-abbrev pub same_communication : Communication → Communication → Bool
-same_communication (Writes m) (Writes n) = nat_eq m n
-same_communication (Reads m) (Reads n) = nat_eq m n
-same_communication Takes Takes = true
-same_communication Emits Emits = true
-same_communication _ _ = false
-
--- how often a communication stands in a list
-abbrev pub times : Communication → List Communication → ℕ
-times c list = count_by (same_communication c) list
+communications program cell =
+    option_map_or (λ (c : CellCode). block_communications c.body) (slice_get program.cells cell) []
 
 -- the length of a message: how often the cells write it
 abbrev pub length_of : ProgramCode → ℕ → ℕ

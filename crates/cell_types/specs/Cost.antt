@@ -1,6 +1,7 @@
 -- How many steps cells take at most.
 use denote.Struct.Props.{props}
 use Rattle.std.specs.Prelude.{◌≡◌, ◌<◌, ◌≤◌, Option, None, Some, MatchOption, ℕ, ◌+◌, ◌*◌, max, sum_by}
+use Rattle.sys_base.specs.declared.limits.TheConstants.{STEPS}
 use Rattle.cell_types.specs.Code.{Expression, Number, Variable, Counter, Element, Negated, Applied, Action, Set, SetAt, Write, Read, Take, Emit, For, If, Block, End, Then, CellCode, ProgramCode}
 
 -- the cost of an expression: one for each node
@@ -33,9 +34,9 @@ abbrev mutual
 abbrev pub cells_cost : ProgramCode → ℕ
 cells_cost program = sum_by (λ (c : CellCode). block_cost c.body) program.cells
 
--- The answer is the cost where that is at most 4,194,304 steps, and else there is none.
+-- The answer is the cost where that is no more than the most steps of a program, and otherwise there is none.
 abbrev pub IsLimited : ℕ → Option ℕ → Type 0
-IsLimited cost answer = MatchOption answer (4194304 < cost) (λ steps. (steps ≡ cost) × (cost ≤ 4194304))
+IsLimited cost answer = MatchOption answer (STEPS < cost) (λ steps. (steps ≡ cost) × (cost ≤ STEPS))
 
 -- this has one proof at most
 pub limited-prop : (cost : ℕ) (answer : Option ℕ) → IsProp (IsLimited cost answer)

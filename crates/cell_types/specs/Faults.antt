@@ -4,6 +4,7 @@ use Rattle.std.specs.List.{list_any}
 use Rattle.std.specs.Option.{option_map_or}
 use Rattle.sys_base.specs.Grid.{Extent, neighbour_of, link_id}
 use Rattle.sys_base.specs.declared.kinds.Limit.TheVariants as L
+use Rattle.sys_base.specs.declared.limits.TheConstants.{BUFFER, SIDE, QUEUES, MESSAGES, LABEL, VARIABLES, WORDS}
 use Rattle.cell_tree.specs.declared.source.LinkDecl.{LinkDecl}
 use Rattle.cell_tree.specs.declared.source.MessageDecl.{MessageDecl}
 use Rattle.cell_tree.specs.declared.source.Place.{Place}
@@ -25,7 +26,7 @@ is_outside low high n = nat_lt n low || nat_lt high n
 abbrev pub is_off_grid : Extent → Place → Bool
 is_off_grid g place = not (nat_lt place.row g.rows && nat_lt place.col g.cols)
 
--- what is wrong with declarations that stand behind these earlier ones, each judged by those before it
+-- what is wrong with declarations that come after these earlier ones, each judged by those before it
 abbrev pub faults_behind : {A : Type 0} → (List A → A → List StaticError) → List A → List A → List StaticError
 faults_behind judged earlier [] = []
 faults_behind judged earlier (d ∷ ds) = judged earlier d ++ faults_behind judged (earlier ++ d ∷ []) ds
@@ -33,61 +34,63 @@ faults_behind judged earlier (d ∷ ds) = judged earlier d ++ faults_behind judg
 -- what is wrong with the `array` line
 abbrev pub array_faults : WrittenSource → List StaticError
 array_faults source =
-    when (is_outside 1 16 source.rows) (E.Limit L.Rows source.array_line)
-    ++ when (is_outside 1 16 source.cols) (E.Limit L.Columns source.array_line)
+    when (is_outside 1 SIDE source.rows) (E.Limit L.Rows source.array_line)
+    ++ when (is_outside 1 SIDE source.cols) (E.Limit L.Columns source.array_line)
 
 -- what is wrong with the `queues` and the `buffer` line
 abbrev pub queues_faults : WrittenSource → List StaticError
 queues_faults source =
-    when (is_outside 1 32 source.queues) (E.Limit L.Queues source.queues_line)
-    ++ when (nat_lt 64 source.buffer) (E.Limit L.Buffer source.buffer_line)
+    when (is_outside 1 QUEUES source.queues) (E.Limit L.Queues source.queues_line)
+    ++ when (nat_lt BUFFER source.buffer) (E.Limit L.Buffer source.buffer_line)
 
 -- the link of a `link` line, by its id
 abbrev pub declared_link : Extent → LinkDecl → ℕ
 declared_link g link = link_id (cell_index g link.place) link.dir
 
--- what is wrong with a `link` line behind others
+-- what is wrong with a `link` line after others
 abbrev pub link_faults : Extent → List LinkDecl → LinkDecl → List StaticError
 link_faults g earlier link =
     when (is_off_grid g link.place) (E.OutsideGrid link.line)
     ++ when (is_none (neighbour_of g (cell_index g link.place) link.dir)) (E.OutsideGrid link.line)
     ++ when (list_any (λ other. nat_eq (declared_link g other) (declared_link g link)) earlier)
     (E.Twice (W.Link (declared_link g link)) link.line)
-    ++ when (is_outside 1 32 link.queues) (E.Limit L.Queues link.line)
+    ++ when (is_outside 1 QUEUES link.queues) (E.Limit L.Queues link.line)
 
 -- what is wrong with a route
 abbrev pub route_faults : List ℕ → ℕ → Walked → List StaticError
 route_faults name line (Ok links) = []
 route_faults name line (Err fault) = E.Route name fault line ∷ []
 
--- what is wrong with a `message` line behind others
+-- what is wrong with a `message` line after others
 abbrev pub message_faults : Extent → List MessageDecl → MessageDecl → List StaticError
 message_faults g earlier message =
-    when (nat_le 512 (length earlier)) (E.Limit L.Messages message.line)
-    ++ when (is_among (map (λ (m : MessageDecl). m.name) earlier) message.name) (E.Twice (W.Named message.name) message.line)
+    when (nat_le MESSAGES (length earlier)) (E.Limit L.Messages message.line)
+    ++ when (is_among (map (λ (m : MessageDecl). m.name) earlier) message.name)
+    (E.Twice (W.Named message.name) message.line)
     ++ when (is_off_grid g message.from) (E.OutsideGrid message.line)
     ++ when (is_off_grid g message.to) (E.OutsideGrid message.line)
     ++ when (nat_eq (cell_index g message.from) (cell_index g message.to)) (E.SelfMessage message.name message.line)
     ++ route_faults message.name message.line
     (route_between g (cell_index g message.from) (cell_index g message.to) message.route)
-    ++ when (option_map_or (nat_lt 65535) message.label false) (E.Limit L.Label message.line)
+    ++ when (option_map_or (nat_lt LABEL) message.label false) (E.Limit L.Label message.line)
 
--- what is wrong with a `var` line behind others of its cell, where these are the names of the messages
+-- what is wrong with a `var` line after others of its cell, where these are the names of the messages
 abbrev pub var_faults : List (List ℕ) → List VarDecl → VarDecl → List StaticError
 var_faults messages earlier variable =
     when (is_among messages variable.name || is_among (map (λ (v : VarDecl). v.name) earlier) variable.name)
     (E.Twice (W.Named variable.name) variable.line)
-    ++ when (nat_le 64 (length earlier)) (E.Limit L.Names variable.line)
-    ++ when (nat_eq (words_of variable) 0 || nat_lt 1024 (total_words (earlier ++ variable ∷ [])))
+    ++ when (nat_le VARIABLES (length earlier)) (E.Limit L.Names variable.line)
+    ++ when (nat_eq (words_of variable) 0 || nat_lt WORDS (total_words (earlier ++ variable ∷ [])))
     (E.Limit L.Words variable.line)
 
--- what is wrong with a cell behind others
+-- what is wrong with a cell after others
 abbrev pub cell_faults : WrittenSource → List WrittenCell → WrittenCell → List StaticError
 cell_faults source earlier cell =
     let g = extent_of source in
     let index = cell_index g cell.place in
     when (is_off_grid g cell.place) (E.OutsideGrid cell.line)
-    ++ when (list_any (λ (c : WrittenCell). nat_eq (cell_index g c.place) index) earlier) (E.Twice (W.Cell index) cell.line)
+    ++ when (list_any (λ (c : WrittenCell). nat_eq (cell_index g c.place) index) earlier)
+    (E.Twice (W.Cell index) cell.line)
     ++ faults_behind (var_faults (map (λ (m : MessageDecl). m.name) source.messages)) [] cell.vars
     ++ block_faults (scope_of source cell) cell.body
 

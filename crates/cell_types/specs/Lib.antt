@@ -1,8 +1,8 @@
 pub mod Alike
+pub mod bodies
 pub mod Code
 pub mod Communications
 pub mod Cost
-pub mod Declarations
 pub mod Depth
 pub mod Faults
 pub mod Groups
@@ -10,10 +10,10 @@ pub mod Names
 pub mod Near
 pub mod Resolved
 pub mod Route
-pub mod Scopes
+pub mod Size
+pub mod Solo
 pub mod Sound
 pub mod Statics
-pub mod Tables
 pub mod Typed
 pub mod TypedBlocks
 pub mod Written

@@ -28,8 +28,8 @@ pub record Scope : Type 0 where
   pub variables : List NamedVariable
   pub counters : List (List ℕ)
 
--- what a name means: a message by its index, a variable by its offset, an array by its offset and length, or a counter by
--- how many loops are around its own
+-- what a name means: a message by its index, a variable by its offset, an array by its offset and length, or a counter
+-- by how many loops are around its own
 pub data Meaning : Type 0 where
   MessageAt : (index : ℕ) → Meaning
   VariableAt : (offset : ℕ) → Meaning
@@ -64,7 +64,8 @@ counter_depth scope name = position (λ counter. bytes_eq counter name) scope.co
 abbrev pub meaning : Scope → List ℕ → Option Meaning
 meaning scope name =
     option_or (option_map MessageAt (message_index scope name))
-    (option_or (option_map variable_meaning (variable_named scope name)) (option_map CounterAt (counter_depth scope name)))
+    (option_or (option_map variable_meaning (variable_named scope name))
+    (option_map CounterAt (counter_depth scope name)))
 
 -- whether a name is one of these
 abbrev pub is_among : List (List ℕ) → List ℕ → Bool
@@ -82,7 +83,7 @@ words_of variable = unwrap_or variable.length 1
 abbrev pub total_words : List VarDecl → ℕ
 total_words variables = sum_by words_of variables
 
--- variables one behind another, from this offset on
+-- variables one after another, from this offset on
 abbrev pub placed_from : ℕ → List VarDecl → List NamedVariable
 placed_from offset [] = []
 placed_from offset (v ∷ vs) =

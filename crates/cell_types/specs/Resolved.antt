@@ -1,4 +1,5 @@
--- The resolved program of a source. Where a name has no meaning of the kind that is wanted, 0 stands for what it means.
+-- The resolved program of a source. Where a name has no meaning of the kind that is wanted, 0 stands for what it
+-- means.
 use Rattle.std.specs.Prelude.{ℕ, List, [], ◌∷◌, nat_eq, length, map, find, flat_map, is_some, Option, Some, None, Ok, Err, if◌then◌else◌}
 use Rattle.std.specs.List.{range_with_len}
 use Rattle.std.specs.Option.{option_map_or}
@@ -83,7 +84,8 @@ cell_code source (Some cell) = cell_with (total_words cell.vars) (resolved_block
 
 -- the declaration of a cell, by its index
 abbrev pub declaration_of : WrittenSource → ℕ → Option WrittenCell
-declaration_of source cell = find (λ (c : WrittenCell). nat_eq (cell_index (extent_of source) c.place) cell) source.cells
+declaration_of source cell =
+    find (λ (c : WrittenCell). nat_eq (cell_index (extent_of source) c.place) cell) source.cells
 
 -- the links of a walk
 abbrev pub links_of : Walked → List ℕ
@@ -103,8 +105,8 @@ resolved_message g message =
       label = message.label;
     }
 
--- the queues of the link that leaves a cell in a direction: those of its own line, or those of the `queues` line; none where
--- there is no link
+-- the queues of the link that leaves a cell in a direction: those of its own line, or those of the `queues` line; none
+-- where there is no link
 abbrev pub queues_of : WrittenSource → ℕ → Dir → ℕ
 queues_of source cell dir =
     if is_some (neighbour_of (extent_of source) cell dir)

@@ -2,6 +2,7 @@
 use Rattle.std.specs.Prelude.{ℕ, Bool, true, false, not, List, [], ◌∷◌, ◌++◌, nat_eq, nat_lt, Option, Some, None, is_some, if◌then◌else◌}
 use Rattle.std.specs.Option.{option_map_or}
 use Rattle.sys_base.specs.declared.kinds.Limit.TheVariants as L
+use Rattle.sys_base.specs.declared.limits.TheConstants.{TURNS}
 use Rattle.cell_types.specs.Names.{NamedMessage, Scope, Meaning, MessageAt, VariableAt, ArrayAt, CounterAt, meaning, message_named, inside_loop}
 use Rattle.cell_types.specs.Written.{WrittenExpression, Number, Named, Element, Negated, Applied, WrittenAction, Set, SetAt, Write, Read, Take, Emit, For, If, WrittenBlock, End, Then}
 use Rattle.cell_types.specs.declared.error.Found.{Found}
@@ -56,23 +57,27 @@ name_faults wanted scope line name = misnamed wanted name line (meaning scope na
 abbrev pub write_faults : Scope → ℕ → List ℕ → List StaticError
 write_faults scope line name =
     name_faults is_message scope line name
-    ++ option_map_or (λ (m : NamedMessage). when (not (nat_eq m.sender scope.cell)) (E.WrongEnd name scope.cell true line))
+    ++ option_map_or
+    (λ (m : NamedMessage). when (not (nat_eq m.sender scope.cell)) (E.WrongEnd name scope.cell true line))
     (message_named scope name) []
 
 -- what is wrong with a message that a cell reads: it does not mean one, or one that the cell does not receive
 abbrev pub read_faults : Scope → ℕ → List ℕ → List StaticError
 read_faults scope line name =
     name_faults is_message scope line name
-    ++ option_map_or (λ (m : NamedMessage). when (not (nat_eq m.receiver scope.cell)) (E.WrongEnd name scope.cell false line))
+    ++ option_map_or
+    (λ (m : NamedMessage). when (not (nat_eq m.receiver scope.cell)) (E.WrongEnd name scope.cell false line))
     (message_named scope name) []
 
 -- what is wrong in an expression of a statement on this line
 abbrev pub expression_faults : Scope → ℕ → WrittenExpression → List StaticError
 expression_faults scope line (Number number) = []
 expression_faults scope line (Named name) = name_faults is_value scope line name
-expression_faults scope line (Element name index) = name_faults is_array scope line name ++ expression_faults scope line index
+expression_faults scope line (Element name index) =
+    name_faults is_array scope line name ++ expression_faults scope line index
 expression_faults scope line (Negated operand) = expression_faults scope line operand
-expression_faults scope line (Applied op left right) = expression_faults scope line left ++ expression_faults scope line right
+expression_faults scope line (Applied op left right) =
+    expression_faults scope line left ++ expression_faults scope line right
 
 abbrev mutual
   -- what is wrong in what a statement on this line does
@@ -81,13 +86,15 @@ abbrev mutual
       name_faults is_variable scope line name ++ expression_faults scope line value
   action_faults scope line (SetAt name index value) =
       name_faults is_array scope line name ++ expression_faults scope line index ++ expression_faults scope line value
-  action_faults scope line (Write message value) = write_faults scope line message ++ expression_faults scope line value
-  action_faults scope line (Read message name) = read_faults scope line message ++ name_faults is_variable scope line name
+  action_faults scope line (Write message value) =
+      write_faults scope line message ++ expression_faults scope line value
+  action_faults scope line (Read message name) =
+      read_faults scope line message ++ name_faults is_variable scope line name
   action_faults scope line (Take name) = name_faults is_variable scope line name
   action_faults scope line (Emit value) = expression_faults scope line value
   action_faults scope line (For counter turns body) =
       when (is_some (meaning scope counter)) (E.Twice (W.Named counter) line)
-      ++ when (nat_lt 65535 turns) (E.Limit L.Turns line)
+      ++ when (nat_lt TURNS turns) (E.Limit L.Turns line)
       ++ block_faults (inside_loop counter scope) body
   action_faults scope line (If test first second) =
       expression_faults scope line test ++ block_faults scope first ++ block_faults scope second

@@ -3,7 +3,7 @@ pub use Rattle.cell_types.specs.TypedBlocks.{expression_of, action_of, inner_blo
 use Rattle.std.specs.Prelude.{ℕ, List, map}
 use Rattle.sys_base.specs.Grid.{Extent}
 use Rattle.cell_types.specs.Code.{CellCode, ProgramCode}
-use Rattle.cell_types.specs.declared.cell_program.Cell.{Cell}
+use Rattle.cell_types.specs.declared.cell.Cell.{Cell}
 use Rattle.cell_types.specs.declared.program.Message.{Message}
 
 -- a typed cell as plain data
@@ -11,7 +11,8 @@ abbrev pub plain_cell : Cell → CellCode
 plain_cell cell =
     record { words = cell.words; counters = cell.counters; stack = cell.stack; body = block_of cell.body.items }
 
--- what a program holds: its grid, the queues of each link by id, its messages, its typed cells by index, and its buffer
+-- what a program holds: its grid, the queues of each link by id, its messages, its typed cells by index, and its
+-- buffer
 pub record Contents : Type 0 where
   pub grid : Extent
   pub queues : List ℕ

@@ -25,7 +25,8 @@ abbrev mutual
   action_of (Take word) = C.Take word
   action_of (Emit value) = C.Emit (expression_of value)
   action_of (For' counter turns shape body) = C.For counter turns (inner_block body)
-  action_of (If' test shape_1 first shape_2 second) = C.If (expression_of test) (inner_block first) (inner_block second)
+  action_of (If' test shape_1 first shape_2 second) =
+      C.If (expression_of test) (inner_block first) (inner_block second)
 
   -- the statements of a loop or an arm, as plain data
   pub inner_block : {n : _} → Row_of-TypedStmt n → Block

@@ -1,26 +1,10 @@
 ghost use Rattle.std.specs.Prelude.{ℕ, ◌+◌, ◌*◌, ◌≤◌, max};
-ghost use Rattle.cell_types.specs.Cost.{IsLimited, expression_cost, action_cost, block_cost, cells_cost};
-ghost use Rattle.cell_types.specs.Typed.{action_of, block_of, expression_of, plain};
+ghost use Rattle.cell_types.specs.Cost.{IsLimited, expression_cost, action_cost, block_cost};
+ghost use Rattle.cell_types.specs.Typed.{action_of, block_of, expression_of};
 
 use crate::expression::TypedExpr;
-use crate::program::Program;
 use crate::statement::{TypedAct, TypedStmt};
-
-/// The most steps that the cells of a program may take together.
-const MOST: u64 = 4_194_304;
-
-impl Program {
-    /// The cost of all cells together, in steps, 0 to 4,194,304 (`docs/model.md`, "Cost"); `None` exactly where it is more.
-    pub fn cost(&self) -> Option<u32>
-        ensures { IsLimited (cells_cost (plain self.now)) result }
-    {
-        let mut cost = 0;
-        for cell in self.cells() {
-            cost = sum(cost, cell.cost()?)?;
-        }
-        Some(cost)
-    }
-}
+use sys_base::STEPS;
 
 /// The cost of statements.
 #[cycle(cost)]
@@ -92,7 +76,7 @@ fn branch_cost(test: u32, first: u32, second: u32) -> Option<u32>
 }
 
 /// The sum of two costs.
-fn sum(first: u32, second: u32) -> Option<u32>
+pub(crate) fn sum(first: u32, second: u32) -> Option<u32>
     ensures { IsLimited (first + second) result }
 {
     limited(u64::from(first) + u64::from(second))
@@ -102,7 +86,11 @@ fn sum(first: u32, second: u32) -> Option<u32>
 fn limited(cost: u64) -> Option<u32>
     ensures { IsLimited cost result }
 {
-    if cost > MOST { None } else { Some(cost as u32) }
+    if cost > u64::from(STEPS) {
+        None
+    } else {
+        Some(cost as u32)
+    }
 }
 
 /// The sum of two costs, each of which may be above the limit.

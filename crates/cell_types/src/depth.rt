@@ -1,4 +1,5 @@
-ghost use Rattle.std.specs.Prelude.{◌≡◌, ◌≤◌};
+ghost use Rattle.std.specs.Prelude.{◌-◌, ◌≡◌, ◌≤◌};
+ghost use Rattle.cell_lexer.specs.declared.limits.TheConstants.{PIECE_TOKENS, OPEN_BRACES};
 ghost use Rattle.cell_types.specs.Depth.{expression_stack, action_stack, block_stack, action_loops, block_loops};
 ghost use Rattle.cell_types.specs.Typed.{expression_of, action_of, block_of};
 
@@ -7,7 +8,7 @@ use crate::statement::{TypedAct, TypedStmt};
 
 /// The deepest stack that an expression needs.
 fn expression_stack(expr: &TypedExpr) -> u16
-    requires { expression_stack (expression_of expr.now) ≤ 256 }
+    requires { expression_stack (expression_of expr.now) ≤ PIECE_TOKENS }
     ensures { result ≡ expression_stack (expression_of expr.now) }
 {
     match expr {
@@ -23,7 +24,7 @@ fn expression_stack(expr: &TypedExpr) -> u16
 /// The deepest stack that some of these statements needs.
 #[cycle(stack)]
 fn block_stack(body: &[TypedStmt]) -> u16
-    requires { block_stack (block_of body.now) ≤ 256 }
+    requires { block_stack (block_of body.now) ≤ PIECE_TOKENS }
     ensures { result ≡ block_stack (block_of body.now) }
 {
     let mut deepest = 0;
@@ -36,7 +37,7 @@ fn block_stack(body: &[TypedStmt]) -> u16
 /// The deepest stack that a statement needs.
 #[cycle(stack)]
 pub(crate) fn action_stack(act: &TypedAct) -> u16
-    requires { action_stack (action_of act.now) ≤ 256 }
+    requires { action_stack (action_of act.now) ≤ PIECE_TOKENS }
     ensures { result ≡ action_stack (action_of act.now) }
 {
     match act {
@@ -57,7 +58,7 @@ pub(crate) fn action_stack(act: &TypedAct) -> u16
 /// How many loops of these statements stand inside one another at most.
 #[cycle(loops)]
 fn block_loops(body: &[TypedStmt]) -> u8
-    requires { block_loops (block_of body.now) ≤ 16 }
+    requires { block_loops (block_of body.now) ≤ OPEN_BRACES - 1 }
     ensures { result ≡ block_loops (block_of body.now) }
 {
     let mut deepest = 0;
@@ -70,7 +71,7 @@ fn block_loops(body: &[TypedStmt]) -> u8
 /// How many loops of a statement stand inside one another at most.
 #[cycle(loops)]
 pub(crate) fn action_loops(act: &TypedAct) -> u8
-    requires { action_loops (action_of act.now) ≤ 16 }
+    requires { action_loops (action_of act.now) ≤ OPEN_BRACES - 1 }
     ensures { result ≡ action_loops (action_of act.now) }
 {
     match act {

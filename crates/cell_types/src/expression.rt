@@ -1,8 +1,7 @@
-use std::rc::Rc;
 use sys_base::Op;
 
 /// An expression whose names are resolved (`docs/language.md`, "Names and what they mean"; `specs/Code.antt`,
-/// `Expression`). Equal leaves may share their memory.
+/// `Expression`).
 ///
 /// The ranges are those of an expression in a `Program` (`specs/Sound.antt`, `SoundExpression`).
 #[derive(Debug, Drop)]
@@ -18,10 +17,10 @@ pub enum TypedExpr {
     At {
         base: u16,
         len: u16,
-        index: Rc<TypedExpr>,
+        index: Box<TypedExpr>,
     },
     /// A unary minus with its operand.
-    Negate(Rc<TypedExpr>),
+    Negate(Box<TypedExpr>),
     /// A binary operator with its left and its right operand.
-    Binary(Op, Rc<TypedExpr>, Rc<TypedExpr>),
+    Binary(Op, Box<TypedExpr>, Box<TypedExpr>),
 }

@@ -2,15 +2,13 @@
 #![tactic(auto)]
 
 mod cell;
-mod cell_program;
-mod cells;
 mod costs;
+mod declared_cells;
 mod depth;
 mod error;
 mod expression;
 mod expressions;
 mod laws;
-mod leaves;
 mod links;
 mod messages;
 mod names;
@@ -22,10 +20,12 @@ mod statements;
 mod table;
 mod variables;
 
-pub use cell_program::Cell;
+pub use cell::Cell;
 pub use error::{Found, RouteFault, StaticError, What};
 pub use expression::TypedExpr;
-pub use laws::routes_agree;
+pub use laws::{
+    alone_communicates, few_communications, few_instructions, routes_agree, some_program,
+};
 pub use program::{Message, Program};
 pub use resolving::resolve;
 pub use statement::{TypedAct, TypedStmt};

@@ -1,7 +1,7 @@
 ghost use Rattle.std.specs.Prelude.{false, ◌≡◌, ◌*◌, ◌<◌, ◌≤◌, ◌||◌, [], ◌∷◌, ◌++◌, List, length, flat_map, is_none, IsTrue, IfOk, IfErr, OnOk, MatchOption, MatchResult};
 ghost use Rattle.sys_base.specs.Grid.{cell_count, neighbour_of};
 ghost use Rattle.cell_tree.specs.declared.source.LinkDecl.{LinkDecl};
-ghost use Rattle.cell_types.specs.Declarations.{HasOwnQueues, HasQueuesOf, count_faults};
+ghost use Rattle.cell_types.specs.bodies.Declarations.{HasOwnQueues, HasQueuesOf, count_faults};
 ghost use Rattle.cell_types.specs.Faults.{faults_behind, link_faults, declared_link, is_off_grid, IsFirst};
 ghost use Rattle.cell_types.specs.Names.{cell_index, extent_of};
 ghost use Rattle.cell_types.specs.Resolved.{queues_of, cell_queues, cells_of};
@@ -11,14 +11,12 @@ ghost use Rattle.cell_types.specs.declared.error.StaticError.TheVariants as E;
 use crate::error::{StaticError, What};
 use cell_tree::LinkDecl;
 use std::alloc::Global;
-use sys_base::{Dir, Grid, Items, Limit};
-
-/// The most queues of a link.
-const QUEUES: u64 = 32;
+use sys_base::{Dir, Grid, Items, Limit, QUEUES};
 
 /// The number of queues that a line gives, 1 to 32.
 pub(crate) fn queue_count(queues: u64, line: u32) -> Result<u8, StaticError>
-    ensures count { MatchResult result (λ count. (count_faults queues line ≡ []) × (count ≡ queues)) (IsFirst (count_faults queues line)) }
+    ensures count { MatchResult result (λ count. (count_faults queues line ≡ []) × (count ≡ queues))
+        (IsFirst (count_faults queues line)) }
     ensures some { IfOk result (λ count. 1 ≤ count) }
 {
     if queues == 0 || queues > QUEUES {
@@ -30,7 +28,8 @@ pub(crate) fn queue_count(queues: u64, line: u32) -> Result<u8, StaticError>
     Ok(queues as u8)
 }
 
-/// The queues of each link by its id: those of its own line, or else the usual ones; 0 where the grid has no link.
+/// The queues of each link by its id: those of its own line, or otherwise the usual ones; 0 where the grid has no
+/// link.
 pub(crate) fn all_queues(
     alloc: Global,
     grid: &Grid,
@@ -75,7 +74,8 @@ fn add_queues(
 fn queues_of(grid: &Grid, usual: u8, own: &[u8], cell: u16, dir: Dir) -> u8
     requires cell { cell < cell_count grid.now }
     requires own { length own.now ≡ 4 * cell_count grid.now }
-    ensures { (source : WrittenSource) → HasQueuesOf source grid.now usual own.now → result ≡ queues_of source cell dir }
+    ensures { (source : WrittenSource) → HasQueuesOf source grid.now usual own.now
+        → result ≡ queues_of source cell dir }
 {
     match grid.link(cell, dir) {
         None => 0,
@@ -103,7 +103,8 @@ fn own_queues(alloc: Global, grid: &Grid, links: &[LinkDecl]) -> Result<Vec<u8>,
 fn declare_link(grid: &Grid, own: &mut Vec<u8>, link: &LinkDecl) -> Result<(), StaticError>
     requires { length own.old.items ≡ 4 * cell_count grid.now }
     ensures { (earlier : List LinkDecl) → HasOwnQueues grid.now earlier own.old.items → MatchResult result
-        (λ _. (link_faults grid.now earlier link.now ≡ []) × HasOwnQueues grid.now (earlier ++ link.now ∷ []) own.new.items)
+        (λ _. (link_faults grid.now earlier link.now ≡ [])
+        × HasOwnQueues grid.now (earlier ++ link.now ∷ []) own.new.items)
         (IsFirst (link_faults grid.now earlier link.now)) }
 {
     let Some(id) = link_of(grid, link) else {
@@ -123,7 +124,8 @@ fn declare_link(grid: &Grid, own: &mut Vec<u8>, link: &LinkDecl) -> Result<(), S
 /// The id of a declared link; `None` exactly where its cell or its neighbour is outside the grid.
 fn link_of(grid: &Grid, link: &LinkDecl) -> Option<u16>
     ensures { MatchOption result
-        (IsTrue (is_off_grid grid.now link.now.place || is_none (neighbour_of grid.now (cell_index grid.now link.now.place) link.now.dir)))
+        (IsTrue (is_off_grid grid.now link.now.place
+        || is_none (neighbour_of grid.now (cell_index grid.now link.now.place) link.now.dir)))
         (λ id. (is_off_grid grid.now link.now.place ≡ false)
         × (is_none (neighbour_of grid.now (cell_index grid.now link.now.place) link.now.dir) ≡ false)
         × (id ≡ declared_link grid.now link.now) × (id < 4 * cell_count grid.now)) }

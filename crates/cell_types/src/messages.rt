@@ -1,12 +1,13 @@
 ghost use Rattle.std.specs.Prelude.{◌≡◌, ◌≢◌, ◌<◌, ◌++◌, ◌∷◌, [], length, map, MatchOption, MatchResult, IfOk, IsTrue, ◌||◌, false};
 ghost use Rattle.std.specs.Option.{option_map_or};
 ghost use Rattle.sys_base.specs.Grid.{cell_count};
-ghost use Rattle.cell_types.specs.Declarations.{naming_faults, ends_faults, ends_of, way_faults, message_between};
+ghost use Rattle.sys_base.specs.declared.limits.TheConstants.{MESSAGES};
+ghost use Rattle.cell_types.specs.bodies.Declarations.{naming_faults, ends_faults, ends_of, way_faults, message_between};
 ghost use Rattle.cell_types.specs.Faults.{faults_behind, is_off_grid, message_faults, IsFirst};
 ghost use Rattle.cell_types.specs.Names.{named_message};
 ghost use Rattle.cell_types.specs.Resolved.{resolved_message};
-ghost use Rattle.cell_types.specs.Scopes.{Resolves, names_in};
-ghost use Rattle.cell_types.specs.Tables.{named_in};
+ghost use Rattle.cell_types.specs.bodies.Scopes.{Resolves, names_in};
+ghost use Rattle.cell_types.specs.bodies.Tables.{named_in};
 
 mod ways;
 
@@ -17,11 +18,8 @@ use crate::table::{Ends, MessageTable};
 use crate::variables::twice;
 use cell_tree::MessageDecl;
 use std::alloc::Global;
-use sys_base::{Grid, Items, Limit};
+use sys_base::{Grid, Items, Limit, MESSAGES};
 use ways::resolve_message;
-
-/// The most messages of a source.
-const MESSAGES: usize = 512;
 
 /// The messages of a source, and the table by which statements name them.
 #[derive(Drop)]
@@ -61,7 +59,7 @@ fn add_name<'a>(names: &mut NameSet<'a>, message: &'a MessageDecl) -> Result<(),
         (λ _. (naming_faults (names_in names.old) message.now ≡ [])
         × (names_in names.new ≡ names_in names.old ++ message.now.name ∷ []))
         (IsFirst (naming_faults (names_in names.old) message.now)) }
-    ensures few { IfOk result (λ _. length (names_in names.old) < 512) }
+    ensures few { IfOk result (λ _. length (names_in names.old) < MESSAGES) }
 {
     let line = message.line;
     if names.len() >= MESSAGES {

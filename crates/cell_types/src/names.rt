@@ -1,5 +1,5 @@
 ghost use Rattle.std.specs.Prelude.{◌≡◌, not, [], ◌∷◌, ◌++◌, length, is_some, if◌then◌else◌, IfOk};
-ghost use Rattle.cell_types.specs.Scopes.{names_in, place_of};
+ghost use Rattle.cell_types.specs.bodies.Scopes.{names_in, place_of};
 
 use indexmap::IndexSet;
 use std::alloc::Global;

@@ -1,8 +1,10 @@
 ghost use Rattle.std.specs.Prelude.{◌≡◌};
+ghost use Rattle.cell_types.specs.Cost.{IsLimited, cells_cost};
 ghost use Rattle.cell_types.specs.Sound.{IsSound};
 ghost use Rattle.cell_types.specs.Typed.{plain};
 
-use crate::cell_program::Cell;
+use crate::cell::Cell;
+use crate::costs::sum;
 use std::marker::Model;
 use sys_base::{Grid, Items, Name};
 
@@ -17,8 +19,8 @@ pub struct Message {
     pub from: u16,
     /// The index of the receiver, below the number of cells, and not that of the sender.
     pub to: u16,
-    /// The ids of the links from the sender to the receiver, in order. There is at least one, none stands twice, and
-    /// each is below four times the number of cells.
+    /// The ids of the links from the sender to the receiver, in order. There are 1 to 256, none stands twice, and each
+    /// is below four times the number of cells.
     pub route: Items<u16>,
     /// The label that the source gives it, 0 to 65,535; `None` exactly where the source gives it none.
     pub label: Option<u16>,
@@ -38,16 +40,18 @@ pub struct Program {
 impl Model for Program {
     ghost use Rattle.cell_types.specs.Typed.{Contents, plain};
     ghost use Rattle.cell_types.specs.Sound.{IsSound};
-    ghost use Rattle.cell_types.specs.contracts.cell_program.Cell as cell;
+    ghost use Rattle.cell_types.specs.contracts.cell.Cell as cell;
     ghost use Rattle.std.specs.Coded.{codes};
 
     ghost Value = { Contents };
 
     ghost coded = { Prim.hlevel (codes, cell.the_row.coded) };
 
-    ghost view = { λ p. record { grid = p.grid; queues = p.queues; messages = p.messages; cells = p.cells; buffer = p.buffer } };
+    ghost view = { λ p.
+        record { grid = p.grid; queues = p.queues; messages = p.messages; cells = p.cells; buffer = p.buffer } };
 
-    ghost invariant = { λ p. IsSound (plain (record { grid = p.grid; queues = p.queues; messages = p.messages; cells = p.cells; buffer = p.buffer })) };
+    ghost invariant = { λ p. IsSound (plain
+        (record { grid = p.grid; queues = p.queues; messages = p.messages; cells = p.cells; buffer = p.buffer })) };
 }
 
 impl Program {
@@ -58,7 +62,8 @@ impl Program {
         messages: Items<Message>,
         cells: Items<Cell>,
     ) -> Program
-        requires sound { IsSound (plain (record { grid = grid; queues = queues; messages = messages; cells = cells; buffer = 0 })) }
+        requires sound { IsSound (plain
+            (record { grid = grid; queues = queues; messages = messages; cells = cells; buffer = 0 })) }
         ensures { result ≡ record { grid = grid; queues = queues; messages = messages; cells = cells; buffer = 0 } }
     {
         Program {
@@ -109,5 +114,17 @@ impl Program {
         ensures sound { IsSound (plain self.now) }
     {
         self.buffer
+    }
+
+    /// The cost of all cells together, in steps, 0 to 4,194,304 (`docs/model.md`, "Cost"); `None` exactly where it is
+    /// more.
+    pub fn cost(&self) -> Option<u32>
+        ensures { IsLimited (cells_cost (plain self.now)) result }
+    {
+        let mut cost = 0;
+        for cell in self.cells() {
+            cost = sum(cost, cell.cost()?)?;
+        }
+        Some(cost)
     }
 }

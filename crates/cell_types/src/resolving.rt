@@ -4,29 +4,26 @@ ghost use Rattle.cell_types.specs.Faults.{array_faults, faults, IsFirst};
 ghost use Rattle.cell_types.specs.Names.{extent_of};
 ghost use Rattle.cell_types.specs.Near.{NamesNear};
 ghost use Rattle.cell_types.specs.Resolved.{program_of};
-ghost use Rattle.cell_types.specs.Scopes.{Resolves};
+ghost use Rattle.cell_types.specs.bodies.Scopes.{Resolves};
 ghost use Rattle.cell_types.specs.Typed.{plain};
 ghost use Rattle.cell_types.specs.Written.{written};
 
-use crate::cells::resolve_cells;
+use crate::declared_cells::resolve_cells;
 use crate::error::StaticError;
 use crate::links::{all_queues, queue_count};
 use crate::messages::{Messages, resolve_messages};
 use crate::program::Program;
-use cell_tree::{Source, printable_is_shallow};
-use routes::path_bounds;
+use cell_tree::{Source, printable_is_shallow, printable_routes_are_short};
+use routes::{path_bounds, route_lengths};
 use std::alloc::Global;
-use sys_base::{Grid, Limit};
-
-/// The most rows, and the most columns, of a grid.
-const SIDE: u64 = 16;
+use sys_base::{Grid, Limit, SIDE};
 
 /// The program of a printable source: its names resolved, its routes and queues filled in (`docs/language.md`,
 /// "Canonical text" and "Names and what they mean").
 ///
-/// An error is the first fault of the source in file order (`docs/refusals.md`, "Statics, in file order"), or `Memory`,
-/// which may come for any source. The cells and links that a fault names stand in rows and columns below 16
-/// (`specs/Near.antt`).
+/// An error is the first fault of the source in file order (`docs/refusals.md`, "Statics, in file order"), or
+/// `Memory`, which may come for any source. The cells and links that a fault names stand in rows and columns that some
+/// grid has (`specs/Near.antt`).
 pub fn resolve(alloc: Global, source: Source) -> Result<Program, StaticError>
     requires printable { IsPrintable source }
     ensures program { IfOk result (λ p. (faults source ≡ []) × (plain p ≡ program_of source)) }
@@ -34,6 +31,7 @@ pub fn resolve(alloc: Global, source: Source) -> Result<Program, StaticError>
     ensures near { IfErr result (NamesNear source.cols) }
 {
     path_bounds();
+    route_lengths();
     resolve_source(alloc, source)
 }
 
@@ -43,7 +41,9 @@ fn resolve_source(alloc: Global, source: Source) -> Result<Program, StaticError>
     ensures fault { IfErr result (IsFirst (faults source)) }
 {
     printable_is_shallow();
+    printable_routes_are_short();
     path_bounds();
+    route_lengths();
     let grid = resolve_grid(&source)?;
     let usual = queue_count(source.queues, source.queues_line)?;
     let queues = all_queues(alloc, &grid, usual, source.links.as_slice())?;

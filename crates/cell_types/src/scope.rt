@@ -1,4 +1,5 @@
-ghost use Rattle.std.specs.Prelude.{◌≤◌, length};
+ghost use Rattle.std.specs.Prelude.{◌-◌, ◌≤◌, length};
+ghost use Rattle.cell_lexer.specs.declared.limits.TheConstants.{OPEN_BRACES};
 
 mod counters;
 mod meanings;
@@ -8,15 +9,15 @@ use crate::table::{Entry, MessageTable};
 use crate::variables::Variables;
 use sys_base::Name;
 
-/// What statements at a place can name: all messages, the variables of their cell, and the counters of the loops around
-/// the place, the outermost first.
+/// What statements at a place can name: all messages, the variables of their cell, and the counters of the loops
+/// around the place, the outermost first.
 #[derive(Drop)]
 pub(crate) struct Scope<'a> {
     cell: u16,
     messages: &'a MessageTable<'a>,
     variables: Variables<'a>,
     counters: Vec<Name>,
-    ghost few: { length counters.items ≤ 16 },
+    ghost few: { length counters.items ≤ OPEN_BRACES - 1 },
 }
 
 /// What a name means.

@@ -22,8 +22,8 @@ pub enum TypedAct {
         word: u16,
         value: TypedExpr,
     },
-    /// `a[e] = f;`, where the array has `len` words from the offset `base` on. `len` is at least 1, and `base + len` is
-    /// at most `Cell::words`.
+    /// `a[e] = f;`, where the array has `len` words from the offset `base` on. `len` is at least 1, and `base + len`
+    /// is at most `Cell::words`.
     SetAt {
         base: u16,
         len: u16,

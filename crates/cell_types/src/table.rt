@@ -1,4 +1,5 @@
 ghost use Rattle.std.specs.Prelude.{◌≡◌, ◌≤◌, length};
+ghost use Rattle.sys_base.specs.declared.limits.TheConstants.{MESSAGES};
 
 mod finding;
 
@@ -10,7 +11,7 @@ pub(crate) struct MessageTable<'a> {
     pub names: NameSet<'a>,
     pub ends: Vec<Ends>,
     ghost even: { length names.names.keys ≡ length ends.items },
-    ghost few: { length ends.items ≤ 512 },
+    ghost few: { length ends.items ≤ MESSAGES },
 }
 
 /// The sender and the receiver of a message: cells, by their indices.

@@ -1,8 +1,9 @@
 ghost use Rattle.std.specs.Prelude.{◌≡◌, ◌+◌, ◌≤◌, nat_eq, nat_lt, ◌||◌, option_map, unwrap_or, find, bytes_eq, IfOk, IsTrue, not};
 ghost use Rattle.std.specs.Option.{SomeIff};
+ghost use Rattle.sys_base.specs.declared.limits.TheConstants.{WORDS};
 ghost use Rattle.cell_types.specs.Names.{NamedVariable, placed_from, total_words};
-ghost use Rattle.cell_types.specs.Scopes.{Resolves, variable_with, variables_in, variables_faults};
-ghost use Rattle.cell_types.specs.Tables.{named_in};
+ghost use Rattle.cell_types.specs.bodies.Scopes.{Resolves, variable_with, variables_in, variables_faults};
+ghost use Rattle.cell_types.specs.bodies.Tables.{named_in};
 ghost use Rattle.cell_types.specs.declared.error.StaticError.TheVariants as E;
 ghost use Rattle.cell_types.specs.declared.error.What.TheVariants as W;
 
@@ -11,13 +12,7 @@ use crate::names::NameSet;
 use crate::table::MessageTable;
 use cell_tree::VarDecl;
 use std::alloc::Global;
-use sys_base::{Limit, Memory, Name};
-
-/// The most names of a cell.
-const NAMES: usize = 64;
-
-/// The most words of a cell.
-const WORDS: u16 = 1024;
+use sys_base::{Limit, Memory, Name, VARIABLES, WORDS};
 
 /// Where the words of a variable begin among those of its cell, and the length of an array.
 #[derive(Clone, Copy, Debug)]
@@ -31,19 +26,20 @@ pub(crate) struct Slot {
 pub(crate) struct Variables<'a> {
     pub names: NameSet<'a>,
     pub slots: Vec<Slot>,
-    /// How many words they have together, at most 1024.
+    /// How many words they have together, at most `WORDS`.
     pub words: u16,
 }
 
 impl<'a> Variables<'a> {
-    /// The declared variables one behind another, or the first fault of the declarations: a second declaration of a name
-    /// (also of a message's), more than 64 names, an empty array, or more than 1024 words.
+    /// The declared variables one after another, or the first fault of the declarations: a second declaration of a
+    /// name (also of a message's), too many names, an empty array, or too many words.
     pub(crate) fn new(
         alloc: Global,
         messages: &MessageTable,
         declared: &'a [VarDecl],
     ) -> Result<Variables<'a>, StaticError>
-        ensures variables { Resolves (variables_faults (named_in messages.now) declared.now) variables_in (placed_from 0 declared.now) result }
+        ensures variables { Resolves (variables_faults (named_in messages.now) declared.now) variables_in
+            (placed_from 0 declared.now) result }
         ensures words { IfOk result (λ variables. variables.words ≡ total_words declared.now) }
     {
         let mut names = NameSet::new(alloc);
@@ -53,7 +49,7 @@ impl<'a> Variables<'a> {
             if messages.find(&variable.name).is_some() || !names.add(&variable.name)? {
                 return Err(twice(&variable.name, variable.line)?);
             }
-            if slots.len() >= NAMES {
+            if slots.len() >= VARIABLES {
                 return Err(StaticError::Limit {
                     limit: Limit::Names,
                     line: variable.line,
@@ -77,29 +73,32 @@ impl<'a> Variables<'a> {
 
     /// The place of the variable with this name.
     pub(crate) fn find(&self, name: &Name) -> Option<Slot>
-        ensures { option_map (variable_with name.now) result ≡ find (λ (v : NamedVariable). bytes_eq v.name name.now) (variables_in self.now) }
+        ensures { option_map (variable_with name.now) result
+            ≡ find (λ (v : NamedVariable). bytes_eq v.name name.now) (variables_in self.now) }
     {
         let place = self.names.place(name)?;
         self.slots.get(place).copied()
     }
 }
 
-/// How many words there are with a variable, or an array of this length, behind so many; `None` where the array is empty, or
-/// there are more than 1024.
+/// How many words there are with a variable, or an array of this length, after these; `None` where the array is empty,
+/// or there are too many.
 fn end_of(words: u16, length: Option<u64>) -> Option<u16>
-    requires { words ≤ 1024 }
-    ensures end { SomeIff result (IsTrue (not (nat_eq (unwrap_or length 1) 0 || nat_lt 1024 (words + unwrap_or length 1)))) (words + unwrap_or length 1) }
+    requires { words ≤ WORDS }
+    ensures end { SomeIff result
+        (IsTrue (not (nat_eq (unwrap_or length 1) 0 || nat_lt WORDS (words + unwrap_or length 1))))
+        (words + unwrap_or length 1) }
 {
     let count = length.unwrap_or(1);
-    if count == 0 || count > u64::from(WORDS - words) {
+    if count == 0 || count > WORDS - u64::from(words) {
         return None;
     }
     Some(words + count as u16)
 }
 
-/// The place of a variable, or of an array of this length, behind so many words.
+/// The place of a variable, or of an array of this length, after these words.
 fn slot_at(words: u16, length: Option<u64>) -> Slot
-    requires { unwrap_or length 1 ≤ 1024 }
+    requires { unwrap_or length 1 ≤ WORDS }
     ensures { result ≡ record { offset = words; len = length } }
 {
     match length {

@@ -2,11 +2,12 @@ ghost use Rattle.std.specs.Prelude.{◌≡◌, ◌≢◌, ◌<◌, false, IfOk, 
 ghost use Rattle.std.specs.Option.{option_map_or};
 ghost use Rattle.sys_base.specs.Grid.{cell_count};
 ghost use Rattle.sys_base.specs.declared.kinds.Limit.TheVariants as L;
-ghost use Rattle.cell_types.specs.Declarations.{way_faults, message_between, walked_with};
+ghost use Rattle.sys_base.specs.declared.limits.TheConstants.{LABEL};
+ghost use Rattle.cell_types.specs.bodies.Declarations.{way_faults, message_between};
 ghost use Rattle.cell_types.specs.Faults.{route_faults, IsFirst};
 ghost use Rattle.cell_types.specs.Resolved.{links_of};
-ghost use Rattle.cell_types.specs.Route.{route_between};
-ghost use Rattle.cell_types.specs.Scopes.{Resolves};
+ghost use Rattle.cell_types.specs.Route.{route_between, walked_with};
+ghost use Rattle.cell_types.specs.bodies.Scopes.{Resolves};
 ghost use Rattle.cell_types.specs.Statics.{when};
 ghost use Rattle.cell_types.specs.declared.error.StaticError.TheVariants as E;
 
@@ -16,10 +17,7 @@ use crate::table::Ends;
 use cell_tree::MessageDecl;
 use routes::{RouteError, route_of};
 use std::alloc::Global;
-use sys_base::{Grid, Items, Limit};
-
-/// The greatest label.
-const LABEL: u64 = 65535;
+use sys_base::{Grid, Items, LABEL, Limit};
 
 /// A message between these ends, with its route and its label.
 pub(super) fn resolve_message(
@@ -31,7 +29,8 @@ pub(super) fn resolve_message(
     requires from { ends.from < cell_count grid.now }
     requires to { ends.to < cell_count grid.now }
     requires apart { ends.from ≢ ends.to }
-    ensures { Resolves (way_faults grid.now ends message.now) (λ m. m) (message_between grid.now ends message.now) result }
+    ensures { Resolves (way_faults grid.now ends message.now) (λ m. m) (message_between grid.now ends message.now)
+        result }
 {
     let route = resolve_route(alloc, grid, ends, message)?;
     let label = resolve_label(message)?;
@@ -54,7 +53,8 @@ fn resolve_route(
     requires from { ends.from < cell_count grid.now }
     requires to { ends.to < cell_count grid.now }
     requires apart { ends.from ≢ ends.to }
-    ensures { Resolves (route_faults message.now.name message.now.line (route_between grid.now ends.from ends.to message.now.route))
+    ensures { Resolves (route_faults message.now.name message.now.line
+        (route_between grid.now ends.from ends.to message.now.route))
         (λ route. route) (links_of (route_between grid.now ends.from ends.to message.now.route)) result }
 {
     match route_of(alloc, grid, ends.from, ends.to, message.route.as_slice()) {
@@ -85,7 +85,7 @@ fn route_fault(message: &MessageDecl, error: RouteError) -> StaticError
 
 /// The label of a message, where it has one.
 fn resolve_label(message: &MessageDecl) -> Result<Option<u16>, StaticError>
-    ensures { Resolves (when (option_map_or (nat_lt 65535) message.now.label false) (E.Limit L.Label message.now.line))
+    ensures { Resolves (when (option_map_or (nat_lt LABEL) message.now.label false) (E.Limit L.Label message.now.line))
         (λ label. label) message.now.label result }
 {
     match message.label {

@@ -1,9 +1,9 @@
 ghost use Rattle.std.specs.Prelude.{◌≡◌, []};
 ghost use Rattle.std.specs.Option.{option_map};
 ghost use Rattle.cell_types.specs.Names.{meaning, message_named, variable_meaning};
-ghost use Rattle.cell_types.specs.Scopes.{meaning_of, message_meant, place_of, scope_in, variable_with, variables_in};
+ghost use Rattle.cell_types.specs.bodies.Scopes.{meaning_of, message_meant, place_of, scope_in, variable_with, variables_in};
 ghost use Rattle.cell_types.specs.Statics.{found_of};
-ghost use Rattle.cell_types.specs.Tables.{named_in};
+ghost use Rattle.cell_types.specs.bodies.Tables.{named_in};
 
 use super::{Meaning, Scope};
 use crate::error::Found;
@@ -20,7 +20,12 @@ impl<'a> Scope<'a> {
         messages: &'a MessageTable<'a>,
         variables: Variables<'a>,
     ) -> Scope<'a>
-        ensures { scope_in result ≡ record { cell = cell; messages = named_in messages.now; variables = variables_in variables.entry; counters = [] } }
+        ensures { scope_in result ≡ record {
+          cell = cell;
+          messages = named_in messages.now;
+          variables = variables_in variables.entry;
+          counters = [];
+        } }
     {
         Scope {
             cell,

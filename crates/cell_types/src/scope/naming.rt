@@ -2,15 +2,13 @@ ghost use Rattle.std.specs.Prelude.{◌≡◌, false, ◌∷◌, [], IfOk};
 ghost use Rattle.std.specs.Option.{option_map};
 ghost use Rattle.cell_types.specs.Names.{meaning};
 ghost use Rattle.cell_types.specs.Resolved as r;
-ghost use Rattle.cell_types.specs.Scopes.{Resolves, meaning_of, scope_in, end_faults};
+ghost use Rattle.cell_types.specs.bodies.Scopes.{Resolves, meaning_of, scope_in, end_faults};
 ghost use Rattle.cell_types.specs.Statics.{misnamed, name_faults, is_variable, is_array, is_value};
 ghost use Rattle.cell_types.specs.Typed.{expression_of};
 
 use super::{Meaning, Scope};
 use crate::error::StaticError;
 use crate::expression::TypedExpr;
-use crate::leaves::Leaves;
-use std::rc::Rc;
 use sys_base::{Memory, Name};
 
 impl<'a> Scope<'a> {
@@ -44,26 +42,6 @@ impl<'a> Scope<'a> {
         match self.meaning(name) {
             Some(Meaning::Variable { offset }) => Ok(TypedExpr::Word(offset)),
             Some(Meaning::Counter { depth }) => Ok(TypedExpr::Counter(depth)),
-            other => Err(misnamed(line, name, other)?),
-        }
-    }
-
-    /// The operand that is the variable or the counter that a statement on this line names.
-    pub(crate) fn operand(
-        &self,
-        leaves: &Leaves,
-        line: u32,
-        name: &Name,
-    ) -> Result<Rc<TypedExpr>, StaticError>
-        ensures { Resolves (name_faults is_value (scope_in self.now) line name.now) (λ operand. expression_of operand.value)
-            (r.value_meant (meaning (scope_in self.now) name.now)) result }
-    {
-        match self.meaning(name) {
-            Some(Meaning::Variable { offset }) => Ok(leaves.word(offset)?),
-            Some(Meaning::Counter { depth }) => Ok(Rc::new(
-                leaves.alloc,
-                TypedExpr::Counter(depth),
-            )?),
             other => Err(misnamed(line, name, other)?),
         }
     }

@@ -1,5 +1,5 @@
 use Rattle.std.proofs.Common.{◌≡◌, ◌++◌, map, take}
-use Rattle.cell_types.specs.Declarations.{HasQueuesOf}
+use Rattle.cell_types.specs.bodies.Declarations.{HasQueuesOf}
 use Rattle.cell_types.specs.Resolved.{queues_of}
 use Rattle.cell_types.specs.Written.{WrittenSource}
 use Rattle.cell_types.proofs.links.add_queues.Given as goal

@@ -1,5 +1,5 @@
 use Rattle.std.proofs.Common.{◌++◌, sym, ap, ◌∙◌, subst}
-use Rattle.cell_types.specs.Declarations.{HasQueuesOf}
+use Rattle.cell_types.specs.bodies.Declarations.{HasQueuesOf}
 use Rattle.cell_types.specs.Resolved.{cell_queues}
 use Rattle.cell_types.proofs.Ranges.{flat_map_range}
 use Rattle.cell_types.proofs.links.all_queues.Goals as goal

@@ -1,6 +1,6 @@
 use Rattle.std.proofs.Common.{◌≡◌, flat_map}
 use Rattle.std.specs.List.{range_with_len}
-use Rattle.cell_types.specs.Declarations.{HasQueuesOf}
+use Rattle.cell_types.specs.bodies.Declarations.{HasQueuesOf}
 use Rattle.cell_types.specs.Resolved.{cell_queues}
 use Rattle.cell_types.specs.Written.{WrittenSource}
 use Rattle.cell_types.proofs.links.all_queues.Given as goal

@@ -3,7 +3,7 @@ use Rattle.std.proofs.lemmas.List.{get_or_default, take_more}
 use Rattle.std.proofs.lemmas.Result.{err_from_is_err_and}
 use Rattle.sys_base.specs.declared.kinds.Dir.TheVariants as D
 use Rattle.cell_tree.specs.declared.source.LinkDecl.{LinkDecl}
-use Rattle.cell_types.specs.Declarations.{HasOwnQueues}
+use Rattle.cell_types.specs.bodies.Declarations.{HasOwnQueues}
 use Rattle.cell_types.specs.Faults.{link_faults}
 use Rattle.cell_types.proofs.Behind.{behind_more, behind_stop}
 use Rattle.cell_types.proofs.links.own_queues.Goals as goal

@@ -1,5 +1,5 @@
 use Rattle.std.proofs.Common.{◌≡◌, [], take}
-use Rattle.cell_types.specs.Declarations.{HasOwnQueues}
+use Rattle.cell_types.specs.bodies.Declarations.{HasOwnQueues}
 use Rattle.cell_types.specs.Faults.{faults_behind, link_faults}
 use Rattle.cell_types.proofs.links.own_queues.Given as goal
 

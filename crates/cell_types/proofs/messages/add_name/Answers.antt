@@ -1,7 +1,7 @@
 use Rattle.std.proofs.Common.{◌<◌, length, sym, subst, arith}
-use Rattle.cell_types.specs.Declarations.{naming_faults}
+use Rattle.cell_types.specs.bodies.Declarations.{naming_faults}
 use Rattle.cell_types.specs.Faults.{IsFirst}
-use Rattle.cell_types.specs.Scopes.{names_in}
+use Rattle.cell_types.specs.bodies.Scopes.{names_in}
 use Rattle.cell_types.proofs.MessageSteps.{named_twice, named_once, added_since}
 use Rattle.cell_types.proofs.messages.add_name.Goals as goal
 

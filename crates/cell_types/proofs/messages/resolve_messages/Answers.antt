@@ -1,7 +1,7 @@
 use Rattle.std.proofs.Common.{[]}
 use Rattle.std.proofs.lemmas.Result.{err_from_is_err_and}
 use Rattle.cell_types.specs.Faults.{faults_behind, message_faults}
-use Rattle.cell_types.specs.Scopes.{names_in}
+use Rattle.cell_types.specs.bodies.Scopes.{names_in}
 use Rattle.cell_types.proofs.FirstFaults.{first_memory}
 use Rattle.cell_types.proofs.MessageLoop.{name_stops, ends_stop, way_stops, messages_more, messages_named}
 use Rattle.cell_types.proofs.messages.resolve_messages.Goals as goal

@@ -1,4 +1,4 @@
-use Rattle.cell_types.specs.Scopes.{names_in}
+use Rattle.cell_types.specs.bodies.Scopes.{names_in}
 use Rattle.cell_types.proofs.MessageLoop.{MessagesSoFar}
 use Rattle.cell_types.proofs.messages.resolve_messages.Given as goal
 

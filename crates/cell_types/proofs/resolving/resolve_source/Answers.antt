@@ -11,7 +11,13 @@ use Rattle.cell_types.proofs.resolving.resolve_source.Goals as goal
 pub new-requires : goal.new-requires
 new-requires c =
     let laws : PathLaws =
-    record { inside = c.path_bounds.ensures.inside; some = c.path_bounds.ensures.some; each = c.path_bounds.ensures.each } in
+    record {
+      inside = c.path_bounds.ensures.inside;
+      some = c.path_bounds.ensures.some;
+      each = c.path_bounds.ensures.each;
+      given = c.route_lengths.ensures.given;
+      default = c.route_lengths.ensures.default;
+    } in
     let source = c.args.source in
     let all = whole source c.requires c.in_ok-grid.grid c.in_ok-usual.usual c.as_slice.result.now c.as_slice-2.result.now
     c.in_ok-queues.queues c.in_ok-list.field-0.list c.in_ok-cells.cells c.in_ok-grid.ensures c.in_ok-usual.ensures.count c.as_slice.ensures
@@ -21,7 +27,8 @@ new-requires c =
     (c.in_ok-queues.ensures.queues (written source) c.in_ok-grid.ensures.1 c.in_ok-usual.ensures.count.1 c.as_slice.ensures) in
     record {
       sound = subst IsSound (sym all.1) (sound laws source c.requires all.0 (c.printable_is_shallow.ensures.stack source c.requires)
-          (c.printable_is_shallow.ensures.loops source c.requires));
+          (c.printable_is_shallow.ensures.loops source c.requires)
+          (c.printable_routes_are_short.ensures source c.requires));
     }
 
 pub returns-clause-program : goal.returns-clause-program

@@ -2,7 +2,7 @@ use Rattle.std.proofs.Common.{◌++◌, length, sym, subst, ap, ◌∙◌, arith
 use Rattle.std.proofs.lemmas.List.{nil_from_length}
 use Rattle.std.specs.Vec.Iter.{into_iter_items}
 use Rattle.cell_types.specs.Resolved.{resolved_action}
-use Rattle.cell_types.specs.Scopes.{scope_in, written_action}
+use Rattle.cell_types.specs.bodies.Scopes.{scope_in, written_action}
 use Rattle.cell_types.specs.Statics.{expression_faults, action_faults, block_faults}
 use Rattle.cell_types.specs.Typed.{action_of, block_of}
 use Rattle.cell_types.specs.Written.{written_block, written_expression}

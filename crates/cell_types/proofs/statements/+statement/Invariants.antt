@@ -1,6 +1,6 @@
 use Rattle.std.proofs.Common.{◌≡◌, length}
 use Rattle.std.specs.Vec.Iter.{into_iter_items, into_iter_len}
-use Rattle.cell_types.specs.Scopes.{scope_in}
+use Rattle.cell_types.specs.bodies.Scopes.{scope_in}
 use Rattle.cell_types.proofs.StatementSteps.{BlockSoFar}
 use Rattle.cell_types.proofs.statements.+statement.Given as goal
 

@@ -1,6 +1,6 @@
 use Rattle.std.proofs.Common.{sym, ap, ◌∙◌, arith}
 use Rattle.std.specs.Option.{option_map}
-use Rattle.cell_types.specs.Tables.{entry_as_message}
+use Rattle.cell_types.specs.bodies.Tables.{entry_as_message}
 use Rattle.cell_types.specs.declared.table.Entry.{Entry}
 use Rattle.cell_types.proofs.TableNames.{named_index, named_message_at, no_message_named, index_below}
 use Rattle.cell_types.proofs.table.MessageTable.find.Goals as goal

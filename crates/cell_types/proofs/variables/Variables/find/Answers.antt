@@ -1,6 +1,6 @@
 use Rattle.std.proofs.Common.{◌≡◌, sym, ap, ◌∙◌, slice_get}
 use Rattle.std.specs.Option.{option_map, option_and_then}
-use Rattle.cell_types.specs.Scopes.{names_in, variable_with}
+use Rattle.cell_types.specs.bodies.Scopes.{names_in, variable_with}
 use Rattle.cell_types.proofs.Places.{slot_got, variable_at_place}
 use Rattle.cell_types.proofs.variables.Variables.find.Goals as goal
 

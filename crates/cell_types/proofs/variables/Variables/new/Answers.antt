@@ -1,7 +1,7 @@
 use Rattle.std.proofs.Common.{◌≡◌, ◌+◌, ◌++◌, ◌∷◌, [], cond, true, sym, subst, ap, ◌∙◌, arith}
 use Rattle.cell_types.specs.Faults.{IsFirst}
-use Rattle.cell_types.specs.Scopes.{variables_faults, names_in}
-use Rattle.cell_types.specs.Tables.{named_in}
+use Rattle.cell_types.specs.bodies.Scopes.{variables_faults, names_in}
+use Rattle.cell_types.specs.bodies.Tables.{named_in}
 use Rattle.cell_types.proofs.VariableSteps.{VariablesSoFar, named_twice, twice_by_message, twice_by_variable, named_once, stop_twice, stop_full, stop_large, variables_more}
 use Rattle.cell_types.proofs.variables.Variables.new.Goals as goal
 use Rattle.cell_types.proofs.variables.Variables.new.Goals.{then-is_some-via-then-is_some, then-is_some-via-else-is_some+in_ok-add+then-not-branch}
@@ -25,15 +25,15 @@ returns-then-is_some-clause-variables c =
     (stop_twice (named_in c.args.messages.now) c.args.declared.now c.loop-variable.variable-index _ _ _ so
     c.variable-item.result c.loop-variable-test.true c.variable-item.is twice)
 
-pub returns-then-len-ge-NAMES-clause-variables : goal.returns-then-len-ge-NAMES-clause-variables
-returns-then-len-ge-NAMES-clause-variables c =
+pub returns-then-len-ge-VARIABLES-clause-variables : goal.returns-then-len-ge-VARIABLES-clause-variables
+returns-then-len-ge-VARIABLES-clause-variables c =
     let so = c.loop-variable.invariant in
     stop_full (named_in c.args.messages.now) c.args.declared.now c.loop-variable.variable-index _ _ _ so
     c.variable-item.result c.loop-variable-test.true c.variable-item.is
     (named_once (named_in c.args.messages.now) c.args.declared.now c.loop-variable.variable-index _ _ _ so
     c.variable-item.result c.loop-variable-test.true c.variable-item.is
     c.find.result c.find.ensures.index (sym c.is_some.ensures ∙ c.if-is_some.false) _ c.in_ok-add.ensures.new c.if-not-branch.false)
-    (omega (arith, c.len.ensures, c.if-len-ge-NAMES.true))
+    (omega (arith, c.len.ensures, c.if-len-ge-VARIABLES.true))
 
 pub returns-in_default-clause-variables : goal.returns-in_default-clause-variables
 returns-in_default-clause-variables c =
@@ -43,7 +43,7 @@ returns-in_default-clause-variables c =
     (named_once (named_in c.args.messages.now) c.args.declared.now c.loop-variable.variable-index _ _ _ so
     c.variable-item.result c.loop-variable-test.true c.variable-item.is
     c.find.result c.find.ensures.index (sym c.is_some.ensures ∙ c.if-is_some.false) _ c.in_ok-add.ensures.new c.if-not-branch.false)
-    (omega (arith, c.len.ensures, c.if-len-ge-NAMES.false)) c.in_default.ensures.end
+    (omega (arith, c.len.ensures, c.if-len-ge-VARIABLES.false)) c.in_default.ensures.end
 
 pub loop-variable-preserved : goal.loop-variable-preserved
 loop-variable-preserved c =
@@ -58,4 +58,4 @@ loop-variable-preserved c =
     (named_once (named_in c.args.messages.now) c.args.declared.now c.loop-variable.variable-index _ _ _ so
     c.variable-item.result c.loop-variable-test.true c.variable-item.is
     c.find.result c.find.ensures.index (sym c.is_some.ensures ∙ c.if-is_some.false) _ c.in_ok-add.ensures.new c.if-not-branch.false)
-    (omega (arith, c.len.ensures, c.if-len-ge-NAMES.false)) c.slot_at.result c.in-Some.end c.slot_at.ensures c.in-Some.ensures.end.1 c.in-Some.ensures.end.0))
+    (omega (arith, c.len.ensures, c.if-len-ge-VARIABLES.false)) c.slot_at.result c.in-Some.end c.slot_at.ensures c.in-Some.ensures.end.1 c.in-Some.ensures.end.0))

@@ -1,5 +1,5 @@
-use Rattle.cell_types.specs.Scopes.{names_in}
-use Rattle.cell_types.specs.Tables.{named_in}
+use Rattle.cell_types.specs.bodies.Scopes.{names_in}
+use Rattle.cell_types.specs.bodies.Tables.{named_in}
 use Rattle.cell_types.proofs.VariableSteps.{VariablesSoFar}
 use Rattle.cell_types.proofs.variables.Variables.new.Given as goal
 

@@ -11,7 +11,7 @@ use Rattle.cell_types.specs.Names.{NamedMessage, NamedVariable, Scope, MessageAt
 use Rattle.cell_types.specs.Names as N
 use Rattle.cell_types.specs.Resolved.{cell_with, resolved_block}
 use Rattle.cell_types.specs.Statics.{block_faults, write_faults, read_faults}
-use Rattle.cell_types.specs.Tables.{named_in, entry_as_message}
+use Rattle.cell_types.specs.bodies.Tables.{named_in, entry_as_message}
 use Rattle.cell_types.specs.Typed.{action_of}
 use Rattle.cell_types.specs.Written.{WrittenAction, WrittenStatement, act_step, statement_step, written_block}
 use Rattle.cell_types.specs.declared.error.StaticError.{StaticError}
@@ -23,7 +23,8 @@ use Rattle.cell_types.specs.declared.statement.TypedStmt.{TypedStmt}
 use Rattle.cell_types.specs.declared.variables.Slot.{Slot}
 use Rattle.cell_types.specs.declared.variables.Variables.{Variables}
 
--- Where there are no faults, what is made is this value, by what it stands for; and else the error is the first fault.
+-- Where there are no faults, what is made is this value, by what it stands for; otherwise the error is the first
+-- fault.
 abbrev pub Resolves : {A V : Type 0} → List StaticError → (A → V) → V → Result A StaticError → Type 0
 Resolves faults stands_for value result =
     MatchResult result (λ made. (faults ≡ []) × (stands_for made ≡ value)) (IsFirst faults)
@@ -90,7 +91,8 @@ cell_scope messages index cell =
 
 -- what is wrong with the variables of a cell
 abbrev pub variables_faults : List NamedMessage → List VarDecl → List StaticError
-variables_faults messages variables = faults_behind (var_faults (map (λ (m : NamedMessage). m.name) messages)) [] variables
+variables_faults messages variables =
+    faults_behind (var_faults (map (λ (m : NamedMessage). m.name) messages)) [] variables
 
 -- what is wrong inside a cell: first with its variables, and then in its statements
 abbrev pub inner_faults : List NamedMessage → ℕ → CellDecl → List StaticError

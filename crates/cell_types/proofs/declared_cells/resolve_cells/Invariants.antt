@@ -1,9 +1,9 @@
 use Rattle.std.proofs.Common.{◌≡◌, length, map}
 use Rattle.std.specs.Vec.Iter.{into_iter_items, into_iter_len}
-use Rattle.cell_types.specs.Tables.{named_in}
+use Rattle.cell_types.specs.bodies.Tables.{named_in}
 use Rattle.cell_types.specs.Typed.{plain_cell}
 use Rattle.cell_types.proofs.CellLoop.{CellsTaken}
-use Rattle.cell_types.proofs.cells.resolve_cells.Given as goal
+use Rattle.cell_types.proofs.declared_cells.resolve_cells.Given as goal
 
 abbrev pub invariant-loop-cell : goal.invariant-loop-cell
 invariant-loop-cell l =

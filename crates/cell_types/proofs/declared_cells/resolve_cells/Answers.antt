@@ -4,14 +4,14 @@ use Rattle.std.proofs.lemmas.Result.{err_from_is_err_and}
 use Rattle.std.specs.Vec.Iter.{into_iter_items}
 use Rattle.sys_base.specs.Grid.{cell_count}
 use Rattle.cell_tree.specs.Depth.{cell_loops, cell_stack}
-use Rattle.cell_types.specs.Declarations.{place_faults, HasMarks}
+use Rattle.cell_types.specs.bodies.Declarations.{place_faults, HasMarks}
 use Rattle.cell_types.specs.Faults.{IsFirst}
 use Rattle.cell_types.specs.Names.{cell_index, extent_of, named_message}
-use Rattle.cell_types.specs.Tables.{named_in}
+use Rattle.cell_types.specs.bodies.Tables.{named_in}
 use Rattle.cell_types.specs.Typed.{plain_cell}
 use Rattle.cell_types.specs.Written.{WrittenCell, written, written_cell}
 use Rattle.cell_types.proofs.CellLoop.{CellsSoFar, cell_taken, cells_all, cells_more, holds_of_taken, inner_stops, none_taken, place_stops}
-use Rattle.cell_types.proofs.cells.resolve_cells.Goals as goal
+use Rattle.cell_types.proofs.declared_cells.resolve_cells.Goals as goal
 
 pub loop-cell-init : goal.loop-cell-init
 loop-cell-init c =

@@ -3,13 +3,13 @@ use Rattle.std.proofs.lemmas.List.{nil_from_length}
 use Rattle.std.specs.Vec.Iter.{into_iter_items}
 use Rattle.cell_types.specs.Cost.{IsLimited, block_cost}
 use Rattle.cell_types.specs.Depth.{block_loops, block_stack}
-use Rattle.cell_types.specs.Scopes.{scope_in}
+use Rattle.cell_types.specs.bodies.Scopes.{scope_in}
 use Rattle.cell_types.specs.Typed.{block_of}
 use Rattle.cell_types.specs.declared.statement.TypedStmt.{TypedStmt}
 use Rattle.cell_types.proofs.FirstFaults.{stops_with}
 use Rattle.cell_types.proofs.Needs.{cost_more, loops_more, loops_within, stack_more, stack_within}
 use Rattle.cell_types.proofs.StatementSteps.{BlockSoFar, block_all, block_more, block_none, block_room, block_stop}
-use Rattle.cell_types.proofs.cell.resolve_body.Goals as goal
+use Rattle.cell_types.proofs.declared_cells.resolve_body.Goals as goal
 
 pub loop-statement-init : goal.loop-statement-init
 loop-statement-init c =

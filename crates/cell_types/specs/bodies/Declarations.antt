@@ -1,21 +1,19 @@
 -- The parts of what can be wrong with declarations, and what tables of declarations have.
-use Rattle.std.specs.Prelude.{ℕ, ◌≡◌, ◌*◌, ◌<◌, ◌≤◌, false, List, [], ◌++◌, nat_eq, nat_lt, nat_le, length, map, find, slice_index, slice_index_or, All, Ok, Err, Bool}
+use Rattle.std.specs.Prelude.{ℕ, ◌≡◌, ◌*◌, ◌<◌, ◌≤◌, false, List, ◌++◌, nat_eq, nat_lt, nat_le, length, map, find, slice_index, slice_index_or, All, Bool}
 use Rattle.std.specs.List.{list_any}
 use Rattle.std.specs.Option.{option_map_or}
 use Rattle.sys_base.specs.Grid.{Extent, cell_count}
 use Rattle.sys_base.specs.declared.kinds.Limit.TheVariants as L
-use Rattle.routes.specs.declared.error.RouteError.{RouteError}
-use Rattle.routes.specs.declared.error.RouteError.TheVariants as Q
+use Rattle.sys_base.specs.declared.limits.TheConstants.{QUEUES, MESSAGES, LABEL}
 use Rattle.cell_tree.specs.declared.source.LinkDecl.{LinkDecl}
 use Rattle.cell_tree.specs.declared.source.MessageDecl.{MessageDecl}
 use Rattle.cell_tree.specs.declared.source.Place.{Place}
 use Rattle.cell_types.specs.Faults.{is_outside, is_off_grid, declared_link, route_faults}
 use Rattle.cell_types.specs.Names.{is_among, cell_index, extent_of}
 use Rattle.cell_types.specs.Resolved.{links_of}
-use Rattle.cell_types.specs.Route.{Walked, route_between}
+use Rattle.cell_types.specs.Route.{route_between}
 use Rattle.cell_types.specs.Statics.{when}
 use Rattle.cell_types.specs.Written.{WrittenCell, WrittenSource}
-use Rattle.cell_types.specs.declared.error.RouteFault.TheVariants as R
 use Rattle.cell_types.specs.declared.error.StaticError.{StaticError}
 use Rattle.cell_types.specs.declared.error.StaticError.TheVariants as E
 use Rattle.cell_types.specs.declared.error.What.TheVariants as W
@@ -24,11 +22,12 @@ use Rattle.cell_types.specs.declared.table.Ends.{Ends}
 
 -- what is wrong with a number of queues on a line
 abbrev pub count_faults : ℕ → ℕ → List StaticError
-count_faults queues line = when (is_outside 1 32 queues) (E.Limit L.Queues line)
+count_faults queues line = when (is_outside 1 QUEUES queues) (E.Limit L.Queues line)
 
 -- the queues that the line of a link gives, by its id; 0 where it has no line
 abbrev pub own_queues : Extent → List LinkDecl → ℕ → ℕ
-own_queues g links link = option_map_or (λ (l : LinkDecl). l.queues) (find (λ l. nat_eq (declared_link g l) link) links) 0
+own_queues g links link =
+    option_map_or (λ (l : LinkDecl). l.queues) (find (λ l. nat_eq (declared_link g l) link) links) 0
 
 -- The table has the queues that the lines of links give, which is 1 at least for each line.
 pub record HasOwnQueues (g : Extent) (links : List LinkDecl) (table : List ℕ) : Type 0 where
@@ -49,7 +48,7 @@ names_of messages = map (λ (m : MessageDecl). m.name) messages
 -- what is wrong with one message more, and with its name, where these are the names of the messages before it
 abbrev pub naming_faults : List (List ℕ) → MessageDecl → List StaticError
 naming_faults names message =
-    when (nat_le 512 (length names)) (E.Limit L.Messages message.line)
+    when (nat_le MESSAGES (length names)) (E.Limit L.Messages message.line)
     ++ when (is_among names message.name) (E.Twice (W.Named message.name) message.line)
 
 -- the ends of a message
@@ -67,14 +66,7 @@ ends_faults g message =
 abbrev pub way_faults : Extent → Ends → MessageDecl → List StaticError
 way_faults g ends message =
     route_faults message.name message.line (route_between g ends.from ends.to message.route)
-    ++ when (option_map_or (nat_lt 65535) message.label false) (E.Limit L.Label message.line)
-
--- a fault of a route as the answer of its walk; want of memory is no fault of it
-abbrev pub walked_with : RouteError → Walked
-walked_with Q.LeavesGrid = Err R.LeavesGrid
-walked_with (Q.LinkTwice link) = Err (R.LinkTwice link)
-walked_with Q.WrongEnd = Err R.WrongEnd
-walked_with Q.Memory = Ok []
+    ++ when (option_map_or (nat_lt LABEL) message.label false) (E.Limit L.Label message.line)
 
 -- a message between these ends
 abbrev pub message_between : Extent → Ends → MessageDecl → Message
@@ -87,7 +79,7 @@ message_between g ends message =
       label = message.label;
     }
 
--- what is wrong with the place of a cell behind others
+-- what is wrong with the place of a cell after others
 abbrev pub place_faults : Extent → List WrittenCell → Place → ℕ → List StaticError
 place_faults g earlier place line =
     when (is_off_grid g place) (E.OutsideGrid line)
