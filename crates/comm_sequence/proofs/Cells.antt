@@ -4,9 +4,9 @@ use Rattle.std.proofs.lemmas.List.{at_drop_more, take_more, map-append}
 use Rattle.cell_types.specs.Code.{CellCode}
 use Rattle.cell_types.specs.Communications.{Communication, block_communications}
 use Rattle.cell_types.specs.Typed.{block_of, plain_cell}
-use Rattle.cell_types.specs.declared.cell_program.Cell.{Cell}
+use Rattle.cell_types.specs.declared.cell.Cell.{Cell}
 use Rattle.comm_sequence.specs.Differing.{differing, differing_from, IsFirst}
-use Rattle.comm_sequence.specs.Unrolling.{all_of}
+use Rattle.comm_sequence.specs.bodies.Unrolling.{all_of}
 use Rattle.comm_sequence.specs.declared.entry.Entry.{Entry}
 use Rattle.comm_sequence.specs.declared.error.CommError.{CommError}
 use Rattle.comm_sequence.specs.declared.error.CommError.TheVariants.{ArmsDiffer, Memory}

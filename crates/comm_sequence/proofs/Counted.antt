@@ -8,7 +8,7 @@ use Rattle.cell_types.specs.Code.{Action, Set, SetAt, Write, Read, Take, Emit, F
 use Rattle.cell_types.specs.Communications.{Communication, Writes, Reads, Takes, Emits, copies, same_communication, times, action_communications, block_communications}
 use Rattle.cell_types.specs.Cost.{action_cost, block_cost}
 use Rattle.comm_sequence.specs.Sequences.{comm_of, comms, writes}
-use Rattle.comm_sequence.specs.Unrolling.{communication_of, all_of}
+use Rattle.comm_sequence.specs.bodies.Unrolling.{communication_of, all_of}
 use Rattle.comm_sequence.specs.declared.comm.Comm.TheVariants as C
 use Rattle.comm_sequence.specs.declared.entry.Entry.{Entry}
 use Rattle.comm_sequence.proofs.Cells.{of_code}
@@ -54,34 +54,9 @@ fewer (Reads n ∷ xs) = omega (arith, fewer xs)
 fewer (Takes ∷ xs) = omega (arith, fewer xs)
 fewer (Emits ∷ xs) = omega (arith, fewer xs)
 
--- the length of copies
-copies_long : (n : ℕ) (xs : List Communication) → length (copies n xs) ≡ n * length xs
-copies_long zero xs = omega arith
-copies_long (suc n) xs =
-    let h : length (copies n xs) ≡ n * length xs = copies_long n xs in
-    omega (arith, length-append xs (copies n xs), h)
-
-mutual
-  -- an action has no more communications than steps
-  act_within : (a : Action) → length (action_communications a) ≤ action_cost a
-  act_within (Set word value) = omega arith
-  act_within (SetAt base len index value) = omega arith
-  act_within (Write message value) = omega arith
-  act_within (Read message word) = omega arith
-  act_within (Take word) = omega arith
-  act_within (Emit value) = omega arith
-  act_within (For counter turns body) =
-      let b : length (block_communications body) ≤ block_cost body + 1 = omega (arith, block_within body) in
-      omega (arith, copies_long turns (block_communications body), mul-le-mul_left turns b)
-  act_within (If test first second) =
-      let b : length (block_communications first) ≤ block_cost first = block_within first in
-      omega arith
-
-  -- statements have no more communications than steps
-  pub block_within : (b : Block) → length (block_communications b) ≤ block_cost b
-  block_within End = omega arith
-  block_within (Then line action rest) =
-      omega (arith, length-append (action_communications action) (block_communications rest), act_within action, block_within rest)
+-- Statements communicate at most as often as they take steps, as `cell_types` says.
+abbrev pub AreFew : Type 0
+AreFew = (b : Block) → length (block_communications b) ≤ block_cost b
 
 -- the sum of some lengths is at most that of the costs
 pub sum_within : (cells : List CellCode) (size : CellCode → ℕ) → ((c : CellCode) → size c ≤ block_cost c.body)

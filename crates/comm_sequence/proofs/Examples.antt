@@ -72,12 +72,12 @@ inner_first = refl
 least_cell : differing_from 0 (cell_of End ∷ cell_of (Then 7 uneven End) ∷ cell_of (Then 5 uneven End) ∷ []) ≡ (1, 7) ∷ (2, 5) ∷ []
 least_cell = refl
 
--- so many assignments of 0, and then these statements
+-- a number of assignments of 0, and then these statements
 abbrev zeros : ℕ → Block → Block
 zeros zero rest = rest
 zeros (suc n) rest = Then 2 (Set 0 (Number 0)) (zeros n rest)
 
--- so many assignments of 0, and so many of the negated variable
+-- a number of assignments of 0, and a number of those of the negated variable
 abbrev assignments : ℕ → ℕ → Block
 assignments n zero = zeros n End
 assignments n (suc m) = Then 2 (Set 0 (Negated (Variable 0))) (assignments n m)

@@ -4,17 +4,18 @@ use Rattle.std.proofs.lemmas.List.{length-map}
 use Rattle.std.proofs.lemmas.List.Sums.{get_or-le-sum_by}
 use Rattle.std.specs.List.{All, count_by, filter_map, sum_by}
 use Rattle.std.specs.Option.{option_map_or}
+use Rattle.sys_base.specs.declared.limits.TheConstants.{STEPS}
 use Rattle.cell_types.specs.Code.{CellCode, ProgramCode}
 use Rattle.cell_types.specs.Communications.{Communication, communications, same_communication, times}
 use Rattle.cell_types.specs.Cost.{cells_cost}
 use Rattle.cell_types.specs.Groups.{below, lengths_of}
 use Rattle.comm_sequence.specs.Sequences.{Sequences, comm_of, comms, sequences_of, writes}
-use Rattle.comm_sequence.specs.Unrolling.{communication_of, all_of}
+use Rattle.comm_sequence.specs.bodies.Unrolling.{communication_of, all_of}
 use Rattle.comm_sequence.specs.declared.comm.Comm.{Comm}
 use Rattle.comm_sequence.specs.declared.entry.Entry.{Entry}
 use Rattle.comm_sequence.proofs.Below.{at_below}
 use Rattle.comm_sequence.proofs.Cells.{of_code}
-use Rattle.comm_sequence.proofs.Counted.{block_within, comms_of, counted_entries, sum_mapped, sum_within}
+use Rattle.comm_sequence.proofs.Counted.{AreFew, comms_of, counted_entries, sum_mapped, sum_within}
 use Rattle.comm_sequence.proofs.SoundSequences.{lists_are, lengths_count}
 
 -- a table of lists of entries is one of lists of communications
@@ -58,16 +59,16 @@ lengths_is p lists count lengths is size made =
     map_same f g e (x ∷ xs) = ap (λ y. y ∷ map f xs) (e x) ∙ ap (λ ys. g x ∷ ys) (map_same f g e xs)
 
 -- the communications of each cell are few
-pub cells_few : (p : ProgramCode) (cells : List (List Entry)) → map all_of cells ≡ map of_code p.cells → cells_cost p ≤ 4194304
+pub cells_few : AreFew → (p : ProgramCode) (cells : List (List Entry)) → map all_of cells ≡ map of_code p.cells → cells_cost p ≤ STEPS
     → All (λ es. length es < 2 ^ 32) cells
-cells_few p cells is cheap = λ k d lt.
+cells_few few p cells is cheap = λ k d lt.
     let one : length (get_or cells k d) ≤ sum_by length cells = get_or-le-sum_by length cells k d lt in
     let e : sum_by length cells ≡ sum_by (λ c. length (of_code c)) p.cells =
     sym (sum_mapped (λ (n : ℕ). n) length cells)
     ∙ ap (sum_by (λ (n : ℕ). n)) (mapped length length (λ es. sym (length-map es communication_of)) cells p.cells is)
     ∙ sum_mapped (λ (n : ℕ). n) (λ c. length (of_code c)) p.cells in
     let h : sum_by (λ c. length (of_code c)) p.cells ≤ cells_cost p =
-    sum_within p.cells (λ c. length (of_code c)) (λ c. block_within c.body) in
+    sum_within p.cells (λ c. length (of_code c)) (λ c. few c.body) in
     omega (arith, one, e, h, cheap)
 
 -- sequences with these parts

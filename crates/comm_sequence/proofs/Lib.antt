@@ -6,6 +6,8 @@ pub mod Entries
 pub mod Examples
 pub mod Gathered
 pub mod Lengths
+pub mod MeaningExamples
+pub mod OrderExamples
 pub mod Owned
 pub mod Pieces
 pub mod Plain

@@ -4,19 +4,19 @@ use Rattle.std.proofs.Math.ListN.{replicate}
 use Rattle.std.proofs.lemmas.List.{map-append, append-nil}
 use Rattle.std.specs.List.{flat_map}
 use Rattle.cell_types.specs.Communications.{Communication, copies}
-use Rattle.comm_sequence.specs.Unrolling.{communication_of, all_of}
+use Rattle.comm_sequence.specs.bodies.Unrolling.{communication_of, all_of}
 use Rattle.comm_sequence.specs.declared.entry.Entry.{Entry}
 
 -- copies of a list, one after another
 abbrev pub repeated : ℕ → List Entry → List Entry
 repeated more piece = flat_map (λ copy. copy) (replicate more piece)
 
--- one copy more stands behind the others as well as before them
+-- one copy more stands after the others as well as before them
 pub one_more : (n : ℕ) (piece : List Entry) → repeated n piece ++ piece ≡ repeated (suc n) piece
 one_more zero piece = sym (append-nil piece)
 one_more (suc n) piece = append_assoc piece (repeated n piece) piece ∙ ap (λ xs. piece ++ xs) (one_more n piece)
 
--- what stands behind the first part of a list
+-- what stands after the first part of a list
 pub behind : (old now : List Entry) (list : List Communication) → all_of now ≡ all_of old ++ list
     → all_of (drop (length old) now) ≡ list
 behind [] now list is = is

@@ -6,7 +6,7 @@ use Rattle.std.specs.Bool.{Decides}
 use Rattle.cell_types.specs.Communications.{Communication, Writes, Reads, Takes, Emits, same_communication}
 use Rattle.comm_sequence.specs.contracts.entry.EntryPartialEq.TheImpl.{eq-value}
 use Rattle.comm_sequence.specs.Differing.{same_list}
-use Rattle.comm_sequence.specs.Unrolling.{communication_of, all_of}
+use Rattle.comm_sequence.specs.bodies.Unrolling.{communication_of, all_of}
 use Rattle.comm_sequence.specs.declared.entry.Entry.{Entry}
 use Rattle.comm_sequence.specs.declared.entry.Entry.TheVariants as E
 use Rattle.comm_sequence.proofs.Entries.{same_entry}

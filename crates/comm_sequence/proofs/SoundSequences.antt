@@ -6,6 +6,7 @@ use Rattle.std.proofs.lemmas.List.Elements.{All-map, All-weaker, All-from_get_or
 use Rattle.std.proofs.lemmas.List.FromFn.{length-map-range_with_len, get_or-map-range_with_len}
 use Rattle.std.specs.List.{All, count_by, slice_get, sum_by}
 use Rattle.std.specs.Option.{option_map_or}
+use Rattle.sys_base.specs.declared.limits.TheConstants.{STEPS}
 use Rattle.cell_types.specs.Code.{ProgramCode}
 use Rattle.cell_types.specs.Communications.{communications, length_of, takes_of, emits_of}
 use Rattle.cell_types.specs.Cost.{cells_cost}
@@ -14,7 +15,7 @@ use Rattle.cell_types.specs.declared.program.Message.{Message}
 use Rattle.comm_sequence.specs.Sequences.{IsSequences, IsAtItsEnd, comms, message_of, sequences_of, writes}
 use Rattle.comm_sequence.proofs.Below.{at_below}
 use Rattle.comm_sequence.proofs.Cells.{of_code}
-use Rattle.comm_sequence.proofs.Counted.{block_within, counted_cells, fewer, sum_mapped, sum_within}
+use Rattle.comm_sequence.proofs.Counted.{AreFew, counted_cells, fewer, sum_mapped, sum_within}
 use Rattle.comm_sequence.proofs.Owned.{ends_of, on_message, own_at}
 
 -- the writes and reads of the cells, one list for each
@@ -28,12 +29,12 @@ pub lists_long : (p : ProgramCode) → length (sequences_of p).lists ≡ length 
 lists_long p = length-map-range_with_len (λ cell. comms (communications p cell)) 0 (length p.cells)
 
 -- all lists together are within the cost
-pub lists_few : (p : ProgramCode) → sum_by length (sequences_of p).lists ≤ cells_cost p
-lists_few p =
+pub lists_few : AreFew → (p : ProgramCode) → sum_by length (sequences_of p).lists ≤ cells_cost p
+lists_few few p =
     let e : sum_by length (sequences_of p).lists ≡ sum_by (λ c. length (comms (of_code c))) p.cells =
     ap (sum_by length) (lists_are p) ∙ sum_mapped length (λ c. comms (of_code c)) p.cells in
     let h : sum_by (λ c. length (comms (of_code c))) p.cells ≤ cells_cost p =
-    sum_within p.cells (λ c. length (comms (of_code c))) (λ c. omega (arith, fewer (of_code c), block_within c.body)) in
+    sum_within p.cells (λ c. length (comms (of_code c))) (λ c. omega (arith, fewer (of_code c), few c.body)) in
     omega (arith, e, h)
 
 -- the list of a cell is its own
@@ -59,8 +60,8 @@ pub lengths_count : (p : ProgramCode) (m : ℕ) → length_of p m ≡ sum_by (co
 lengths_count p m = counted_cells m p.cells ∙ ap (sum_by (count_by (writes m))) (sym (lists_are p))
 
 -- the sequences of a sound program within the limit are what the type keeps
-pub sound_sequences : (p : ProgramCode) → IsSound p → cells_cost p ≤ 4194304 → IsSequences (sequences_of p)
-sound_sequences p sound cheap =
+pub sound_sequences : AreFew → (p : ProgramCode) → IsSound p → cells_cost p ≤ STEPS → IsSequences (sequences_of p)
+sound_sequences few p sound cheap =
     let n = lists_long p in
     let all = sound.all in
     let grid = sound.grid in
@@ -84,5 +85,5 @@ sound_sequences p sound cheap =
       counted = λ m lt.
           let within : m < length p.messages = omega (arith, lt, length-map-range_with_len (length_of p) 0 (length p.messages)) in
           get_or-map-range_with_len (length_of p) 0 (length p.messages) m m 0 within (omega arith) ∙ lengths_count p m;
-      few = omega (arith, lists_few p, cheap);
+      few = omega (arith, lists_few few p, cheap);
     }

@@ -78,7 +78,7 @@ on_known count (k ∷ ks) h =
     (All-cons P (Read k) (events ks) lt (on_known count ks (All-tail (λ m. m < count) k ks h)))
 
 -- a crossing order becomes an order without a buffer
-pub unbuffered : (s : Sequences) (order : List ℕ) → IsCrossingOrder s order → IsBufferedOrder s 0 (events order)
+pub unbuffered : (s : Sequences) (order : List ℕ) → IsCrossingOrder s order → IsBufferedOrder s.lists s.ends 0 (events order)
 unbuffered s order h =
     record {
       known = on_known (length s.ends) order h.known;

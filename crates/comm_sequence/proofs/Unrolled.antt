@@ -12,7 +12,7 @@ use Rattle.cell_types.specs.declared.statement.TypedAct.{TypedAct}
 use Rattle.cell_types.specs.declared.statement.TypedAct.TheVariants as T
 use Rattle.cell_types.specs.declared.statement.TypedStmt.{TypedStmt}
 use Rattle.comm_sequence.specs.Differing.{differing, differing_in, in_turns, same_list}
-use Rattle.comm_sequence.specs.Unrolling.{communication_of, IsFirstLine, IsUnrolled, IsRepeated, IsCutOff, all_of}
+use Rattle.comm_sequence.specs.bodies.Unrolling.{communication_of, IsFirstLine, IsUnrolled, IsRepeated, IsCutOff, all_of}
 use Rattle.comm_sequence.specs.declared.entry.Entry.{Entry}
 use Rattle.comm_sequence.specs.declared.unrolling.Stop.{Stop}
 use Rattle.comm_sequence.specs.declared.unrolling.Stop.TheVariants as S
@@ -26,7 +26,7 @@ front_stop [] ys (S.Differ line) h = absurd (cc h)
 front_stop (x ∷ xs) ys (S.Differ line) h = h
 front_stop xs ys S.Memory h = tt
 
--- a stop behind a part where no arms differ
+-- a stop after a part where no arms differ
 pub back_stop : (xs ys : List ℕ) (stop : Stop) → xs ≡ [] → IsFirstLine ys stop → IsFirstLine (xs ++ ys) stop
 back_stop [] ys stop none h = h
 back_stop (x ∷ xs) ys stop none h = absurd (cc none)

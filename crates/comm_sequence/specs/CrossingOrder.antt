@@ -17,7 +17,8 @@ receives ends cell message = option_map_or (λ e. nat_eq e.1 cell) (slice_get en
 abbrev pub one_if : Bool → Comm → List Comm
 one_if there operation = if there then operation ∷ [] else []
 
--- what a message is to a cell: its write where the cell sends it, its read where the cell receives it, and else nothing
+-- what a message is to a cell: its write where the cell sends it, its read where the cell receives it, and else
+-- nothing
 abbrev pub seen : List (ℕ × ℕ) → ℕ → ℕ → List Comm
 seen ends cell message =
     one_if (sends ends cell message) (Write message) ++ one_if (receives ends cell message) (Read message)

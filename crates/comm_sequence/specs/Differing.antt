@@ -17,8 +17,8 @@ in_turns zero lines = []
 in_turns (suc n) lines = lines
 
 abbrev mutual
-  -- the lines of the `if`s in an action on a line whose arms communicate differently, but for those in loops of 0 turns, in
-  -- the order of their last closing braces
+  -- the lines of the `if`s in an action on a line whose arms communicate differently, but for those in loops of 0
+  -- turns, in the order of their last closing braces
   pub differing_in : ℕ → Action → List ℕ
   differing_in line (For counter turns body) = in_turns turns (differing body)
   differing_in line (If test first second) =

@@ -19,22 +19,23 @@ pub record Neighbours (lists : List (List Comm)) (a b : ℕ) : Type 0 where
 abbrev pub IsConsistent : List (List Comm) → List ℕ → Type 0
 IsConsistent lists labels = (a b : ℕ) → Neighbours lists a b → slice_index labels a ≤ slice_index labels b
 
--- The first message must come no later than the second: they are one, or a chain of neighbours leads from it to the other.
+-- The first message must come no later than the second: they are one, or a chain of neighbours leads from it to the
+-- other.
 pub data Must (lists : List (List Comm)) : ℕ → ℕ → Type 0 where
   Alone : (a : ℕ) → Must lists a a
   Before : (a b c : ℕ) → Neighbours lists a b → Must lists b c → Must lists a c
 
--- The table tells of each two of so many messages whether the first must come no later than the second.
+-- The table tells for each two messages below a count whether the first must come no later than the second.
 abbrev pub IsTable : List (List Comm) → ℕ → (ℕ → ℕ → Bool) → Type 0
 IsTable lists count must = (a b : ℕ) → a < count → b < count → (IsTrue (must a b) ↔ Must lists a b)
 
--- the key of a message: how many messages must come no later than it, and the least one that must come no later than it and
--- no earlier
+-- the key of a message: how many messages must come no later than it, and the least one that must come no later than
+-- it and no earlier
 pub record Key : Type 0 where
   pub earlier : ℕ
   pub least : ℕ
 
--- the key of one of so many messages, by the table
+-- the key of a message, by the table and the number of messages
 abbrev pub key : (ℕ → ℕ → Bool) → ℕ → ℕ → Key
 key must count m =
     record {
@@ -55,12 +56,13 @@ abbrev pub different : List Key → List Key
 different [] = []
 different (k ∷ ks) = k ∷ filter (λ j. not (same_key k j)) (different ks)
 
--- the label that is proposed for one of so many messages: how many different keys are below its own
+-- the label that is proposed for a message: how many different keys are below its own
 abbrev pub proposed : (ℕ → ℕ → Bool) → ℕ → ℕ → ℕ
 proposed must count m =
     length (filter (λ k. is_below k (key must count m)) (different (map (key must count) (below count))))
 
--- These are the labels that are proposed for so many messages.
+-- These are the labels that are proposed for the messages below a count. The table only decides `Must`: there is one, and every
+-- such table has the same answers, so the labels do not depend on it.
 pub record IsProposal (lists : List (List Comm)) (count : ℕ) (labels : List ℕ) : Type 0 where
   pub must : ℕ → ℕ → Bool
   pub table : IsTable lists count must

@@ -1,7 +1,7 @@
 ghost use Rattle.std.specs.Prelude.{◌≡◌};
 ghost use Rattle.cell_types.specs.Communications.{same_communication};
 ghost use Rattle.comm_sequence.specs.Sequences.{comm_of};
-ghost use Rattle.comm_sequence.specs.Unrolling.{communication_of};
+ghost use Rattle.comm_sequence.specs.bodies.Unrolling.{communication_of};
 
 use crate::comm::Comm;
 

@@ -30,9 +30,12 @@ impl Model for Seqs {
 
     ghost coded = { Prim.hlevel (codes, comm.the_row.coded) };
 
-    ghost view = { λ s. record { lists = s.lists; lengths = s.lengths; takes = s.takes; emits = s.emits; ends = s.ends } };
+    ghost view = { λ s.
+        record { lists = s.lists; lengths = s.lengths; takes = s.takes; emits = s.emits; ends = s.ends } };
 
-    ghost invariant = { λ s. IsSequences (record { lists = s.lists; lengths = s.lengths; takes = s.takes; emits = s.emits; ends = s.ends }) };
+    ghost invariant = { λ s.
+        IsSequences
+        (record { lists = s.lists; lengths = s.lengths; takes = s.takes; emits = s.emits; ends = s.ends }) };
 }
 
 impl Seqs {
@@ -44,7 +47,8 @@ impl Seqs {
         emits: Items<u32>,
         ends: Items<(u16, u16)>,
     ) -> Seqs
-        requires { IsSequences (record { lists = lists; lengths = lengths; takes = takes; emits = emits; ends = ends }) }
+        requires { IsSequences
+            (record { lists = lists; lengths = lengths; takes = takes; emits = emits; ends = ends }) }
         ensures { result ≡ record { lists = lists; lengths = lengths; takes = takes; emits = emits; ends = ends } }
     {
         Seqs {
@@ -62,7 +66,10 @@ impl Seqs {
         ensures list { result ≡ slice_index_or self.now.lists cell [] }
         ensures kept { IsSequences self.now }
     {
-        Cursor::new(self.lists.as_slice()[cell as usize].as_slice())
+        match self.lists.get(usize::from(cell)) {
+            Some(list) => Cursor::new(list.as_slice()),
+            None => Cursor::new(&[]),
+        }
     }
 
     /// The length of a message in words, which is its number of writes, 0 to 4,194,304. The message's index is below

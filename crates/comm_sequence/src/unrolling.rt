@@ -2,7 +2,7 @@ ghost use Rattle.std.specs.Prelude.{◌≡◌, ◌≤◌, [], ◌∷◌, vec_len
 ghost use Rattle.cell_types.specs.Communications.{action_communications, block_communications};
 ghost use Rattle.cell_types.specs.Typed.{action_of, block_of};
 ghost use Rattle.comm_sequence.specs.Differing.{differing, differing_in};
-ghost use Rattle.comm_sequence.specs.Unrolling.{communication_of, IsUnrolled, IsRepeated, IsCutOff};
+ghost use Rattle.comm_sequence.specs.bodies.Unrolling.{communication_of, IsUnrolled, IsRepeated, IsCutOff};
 ghost use Rattle.comm_sequence.specs.declared.unrolling.Stop.TheVariants as S;
 
 use crate::entry::Entry;
@@ -35,7 +35,8 @@ impl<T: Drop> From<AllocFailed<T>> for Stop {
 /// Appends the communications of statements. Each `if` that is not in a loop of 0 turns is compared once.
 #[cycle(unroll)]
 pub fn unroll(entries: &mut Vec<Entry>, body: &[TypedStmt]) -> Result<(), Stop>
-    ensures { IsUnrolled entries.old.items (differing (block_of body.now)) (block_communications (block_of body.now)) result entries.new.items }
+    ensures { IsUnrolled entries.old.items (differing (block_of body.now)) (block_communications (block_of body.now))
+        result entries.new.items }
 {
     for statement in body {
         unroll_act(entries, statement.line, &statement.act)?;
@@ -46,7 +47,8 @@ pub fn unroll(entries: &mut Vec<Entry>, body: &[TypedStmt]) -> Result<(), Stop>
 /// Appends the communications of what a statement on a line does.
 #[cycle(unroll)]
 fn unroll_act(entries: &mut Vec<Entry>, line: u32, act: &TypedAct) -> Result<(), Stop>
-    ensures { IsUnrolled entries.old.items (differing_in line (action_of act.now)) (action_communications (action_of act.now)) result entries.new.items }
+    ensures { IsUnrolled entries.old.items (differing_in line (action_of act.now))
+        (action_communications (action_of act.now)) result entries.new.items }
 {
     match act {
         TypedAct::Set { .. } => Ok(()),
@@ -81,7 +83,7 @@ fn append(entries: &mut Vec<Entry>, entry: Entry) -> Result<(), Stop>
     Ok(())
 }
 
-/// Appends so many more copies of what stands from `start` on.
+/// Appends this number of copies more of what stands from `start` on.
 fn repeat(entries: &mut Vec<Entry>, start: usize, more: u64) -> Result<(), Stop>
     requires { start ≤ vec_len entries.old }
     ensures { IsRepeated entries.old.items start more result entries.new.items }
@@ -93,8 +95,8 @@ fn repeat(entries: &mut Vec<Entry>, start: usize, more: u64) -> Result<(), Stop>
     Ok(())
 }
 
-/// Cuts off the second arm of an `if` on a line, which stands from `middle` on, where it is the same as the first one, which
-/// stands from `start` on.
+/// Cuts off the second arm of an `if` on a line, which stands from `middle` on, where it is the same as the first
+/// one, which stands from `start` on.
 fn cut_second(entries: &mut Vec<Entry>, start: usize, middle: usize, line: u32) -> Result<(), Stop>
     requires order { start ≤ middle }
     requires within { middle ≤ vec_len entries.old }

@@ -1,7 +1,7 @@
 use Rattle.std.proofs.Common.{◌≡◌, map, take}
 use Rattle.std.specs.List.{count_by}
 use Rattle.cell_types.specs.Communications.{same_communication}
-use Rattle.comm_sequence.specs.Unrolling.{communication_of}
+use Rattle.comm_sequence.specs.bodies.Unrolling.{communication_of}
 use Rattle.comm_sequence.proofs.gathering.counts.Given as goal
 
 abbrev pub invariant-loop-entries : goal.invariant-loop-entries

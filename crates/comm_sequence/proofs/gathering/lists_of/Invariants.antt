@@ -1,7 +1,7 @@
 use Rattle.std.proofs.Common.{◌≡◌, map, take}
 use Rattle.std.specs.List.{filter_map}
 use Rattle.comm_sequence.specs.Sequences.{comm_of}
-use Rattle.comm_sequence.specs.Unrolling.{communication_of}
+use Rattle.comm_sequence.specs.bodies.Unrolling.{communication_of}
 use Rattle.comm_sequence.proofs.gathering.lists_of.Given as goal
 
 abbrev pub invariant-loop-entries : goal.invariant-loop-entries

@@ -14,12 +14,12 @@ use Rattle.comm_sequence.proofs.gathering.sequences.Goals as goal
 pub counts-requires : goal.counts-requires
 counts-requires c =
     subst (All (λ es. length es < 2 ^ 32)) (sym c.as_slice.ensures)
-    (cells_few (plain c.args.program.now) c.in_ok-cells.cells c.in_ok-cells.ensures.cells.1 c.requires.cost)
+    (cells_few c.few_communications.ensures.block (plain c.args.program.now) c.in_ok-cells.cells c.in_ok-cells.ensures.cells.1 c.requires.cost)
 
 pub counts-requires-2 : goal.counts-requires-2
 counts-requires-2 c =
     subst (All (λ es. length es < 2 ^ 32)) (sym c.as_slice-2.ensures)
-    (cells_few (plain c.args.program.now) c.in_ok-cells.cells c.in_ok-cells.ensures.cells.1 c.requires.cost)
+    (cells_few c.few_communications.ensures.block (plain c.args.program.now) c.in_ok-cells.cells c.in_ok-cells.ensures.cells.1 c.requires.cost)
 
 pub lengths_of-requires-clause-messages : goal.lengths_of-requires-clause-messages
 lengths_of-requires-clause-messages c =
@@ -38,7 +38,7 @@ lengths_of-requires-clause-few c =
     let lists = lists_is p c.in_ok-cells.cells c.as_slice-3.result.now c.in_ok-lists.lists c.in_ok-cells.ensures.cells.1
     c.as_slice-3.ensures c.in_ok-lists.ensures in
     let e = ap (sum_by length) (c.as_slice-4.ensures ∙ lists) in
-    omega (arith, e, lists_few p, c.requires.cost)
+    omega (arith, e, lists_few c.few_communications.ensures.block p, c.requires.cost)
 
 pub new-requires : goal.new-requires
 new-requires c =
@@ -54,7 +54,7 @@ new-requires c =
     ∙ ap (map (λ (m : Message). (m.from, m.to))) c.messages-messages.ensures.messages in
     let equal = all_parts p (record { lists = c.in_ok-lists.lists; lengths = c.in_ok-lengths.lengths; takes = c.in_ok-takes.takes; emits = c.in_ok-emits.emits; ends = c.from_vec-ends.result })
     lists lengths takes emits ends in
-    subst IsSequences (sym equal) (sound_sequences p c.messages-messages.ensures.sound c.requires.cost)
+    subst IsSequences (sym equal) (sound_sequences c.few_communications.ensures.block p c.messages-messages.ensures.sound c.requires.cost)
 
 pub returns-clause-sequences : goal.returns-clause-sequences
 returns-clause-sequences c =

@@ -3,9 +3,9 @@ use Rattle.std.proofs.lemmas.List.{at_drop_all, take_all}
 use Rattle.std.proofs.lemmas.Result.{err_from_is_err_and}
 use Rattle.cell_types.specs.Communications.{block_communications}
 use Rattle.cell_types.specs.Typed.{block_of, plain, plain_cell}
-use Rattle.cell_types.specs.declared.cell_program.Cell.{Cell}
+use Rattle.cell_types.specs.declared.cell.Cell.{Cell}
 use Rattle.comm_sequence.specs.Differing.{all_differing, differing, differing_from, IsFirst}
-use Rattle.comm_sequence.specs.Unrolling.{all_of}
+use Rattle.comm_sequence.specs.bodies.Unrolling.{all_of}
 use Rattle.comm_sequence.proofs.Cells.{first_at, list_more, none_more, of_code}
 use Rattle.comm_sequence.proofs.gathering.unrolled.Goals as goal
 

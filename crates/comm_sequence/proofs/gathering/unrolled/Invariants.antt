@@ -3,7 +3,7 @@ use Rattle.cell_types.specs.Code.{CellCode}
 use Rattle.cell_types.specs.Communications.{block_communications}
 use Rattle.cell_types.specs.Typed.{plain, plain_cell}
 use Rattle.comm_sequence.specs.Differing.{all_differing, differing_from}
-use Rattle.comm_sequence.specs.Unrolling.{all_of}
+use Rattle.comm_sequence.specs.bodies.Unrolling.{all_of}
 use Rattle.comm_sequence.proofs.gathering.unrolled.Given as goal
 
 abbrev pub invariant-loop-index : goal.invariant-loop-index

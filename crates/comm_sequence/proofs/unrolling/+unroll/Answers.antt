@@ -3,7 +3,7 @@ use Rattle.std.proofs.lemmas.Result.{err_from_is_err_and}
 use Rattle.cell_types.specs.Communications.{block_communications, copies}
 use Rattle.cell_types.specs.Typed.{action_of, block_of}
 use Rattle.comm_sequence.specs.Differing.{differing, differing_in}
-use Rattle.comm_sequence.specs.Unrolling.{IsFirstLine}
+use Rattle.comm_sequence.specs.bodies.Unrolling.{IsFirstLine}
 use Rattle.comm_sequence.proofs.Pieces.{longer}
 use Rattle.comm_sequence.proofs.Unrolled.{front_stop, back_stop, body_stop, other_turns, some_turns, loop_lines, loop_list, branch_lines, branch_list, own_line, unrolled_as, loop_end, branch_end}
 use Rattle.comm_sequence.proofs.unrolling.+unroll.Goals as goal

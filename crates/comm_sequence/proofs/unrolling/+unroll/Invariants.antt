@@ -2,7 +2,7 @@ use Rattle.std.proofs.Common.{◌≡◌, ◌++◌, drop}
 use Rattle.cell_types.specs.Communications.{block_communications}
 use Rattle.cell_types.specs.Typed.{block_of}
 use Rattle.comm_sequence.specs.Differing.{differing}
-use Rattle.comm_sequence.specs.Unrolling.{all_of}
+use Rattle.comm_sequence.specs.bodies.Unrolling.{all_of}
 use Rattle.comm_sequence.proofs.unrolling.+unroll.Given as goal
 
 abbrev pub invariant-unroll-loop-statement : goal.invariant-unroll-loop-statement

@@ -32,7 +32,9 @@ abbrev pub IsRepeated : List Entry → ℕ → ℕ → Result ⊤ Stop → List 
 IsRepeated old start more (Ok _) new = new ≡ old ++ flat_map (λ copy. copy) (replicate more (drop start old))
 IsRepeated old start more (Err stop) new = stop ≡ S.Memory
 
--- What stands from the middle on is the same as what stands before it from the start on, and was cut off, or it differs.
+-- What stands from the middle on is the same as what stands before it from the start on, and was cut off, or it
+-- differs.
 abbrev pub IsCutOff : List Entry → ℕ → ℕ → ℕ → Result ⊤ Stop → List Entry → Type 0
 IsCutOff old start middle line (Ok _) new = (slice_range old start middle ≡ drop middle old) × (new ≡ take middle old)
-IsCutOff old start middle line (Err stop) new = (slice_range old start middle ≢ drop middle old) × (stop ≡ S.Differ line)
+IsCutOff old start middle line (Err stop) new =
+    (slice_range old start middle ≢ drop middle old) × (stop ≡ S.Differ line)
