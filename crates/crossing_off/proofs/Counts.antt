@@ -1,119 +1,121 @@
--- How often a list of messages makes each operation.
-use Rattle.std.proofs.Common.{◌≡◌, ℕ, ◌+◌, ◌≤◌, Bool, true, false, cond, nat_eq, List, [], ◌∷◌, ◌++◌, ◌∙◌, ap, sym, refl, ⊎_elim, arith}
+-- How often operations stand in lists.
+use Rattle.std.proofs.Common.{◌≡◌, ℕ, ◌+◌, ◌<◌, ◌≤◌, Bool, true, false, cond, nat_eq, List, [], ◌∷◌, ◌++◌, filter, length, ◌∙◌, ap, sym, refl, ⊎_elim, true≢false, arith}
 use Rattle.std.proofs.lemmas.Bool.{eqb-true, eq-eqb, cases_Bool}
-use Rattle.comm_sequence.specs.BufferedOrder.{same, is_of}
-use Rattle.comm_sequence.specs.CrossingOrder.{sends, receives, seen, one_if}
-use Rattle.comm_sequence.specs.Sequences.{Sequences, message_of}
+use Rattle.std.proofs.lemmas.List.Sums.{sum_by-cons}
+use Rattle.comm_sequence.specs.BufferedOrder.{same, is_of, occurrences}
+use Rattle.comm_sequence.specs.Sequences.{message_of}
 use Rattle.comm_sequence.specs.declared.comm.Comm.{Comm}
 use Rattle.comm_sequence.specs.declared.comm.Comm.TheVariants.{Write, Read}
-use Rattle.crossing_off.specs.Greedy.{made}
 
 -- an operation is the same as itself
-same_refl : (e : Comm) → same e e ≡ true
-same_refl (Write m) = eq-eqb m m refl
-same_refl (Read m) = eq-eqb m m refl
+pub same_self : (e : Comm) → same e e ≡ true
+same_self (Write m) = eq-eqb m m refl
+same_self (Read m) = eq-eqb m m refl
 
--- 1 where two operations are the same, and else 0
+-- operations that are the same are equal
+pub same_equal : (e x : Comm) → same e x ≡ true → e ≡ x
+same_equal (Write m) (Write n) h = ap Write (eqb-true m n h)
+same_equal (Write m) (Read n) h = absurd (true≢false (sym h))
+same_equal (Read m) (Write n) h = absurd (true≢false (sym h))
+same_equal (Read m) (Read n) h = ap Read (eqb-true m n h)
+
+-- 1 where two operations are the same, and otherwise 0
 abbrev pub one_if_same : Comm → Comm → ℕ
 one_if_same e x = cond (same e x) 1 0
 
--- how often an operation stands in a list
-pub times : Comm → List Comm → ℕ
-times e [] = 0
-times e (x ∷ xs) = one_if_same e x + times e xs
+-- one operation more in front
+pub occurs_cons : (e x : Comm) (xs : List Comm) → occurrences e (x ∷ xs) ≡ one_if_same e x + occurrences e xs
+occurs_cons e x xs = sum_by-cons (λ y. cond (same e y) 1 0) x xs
 
--- how often a message stands in a list
-pub crossings : ℕ → List ℕ → ℕ
-crossings m [] = 0
-crossings m (x ∷ xs) = cond (nat_eq m x) 1 0 + crossings m xs
+-- it stands there once more
+pub occurs_itself : (x : Comm) (xs : List Comm) → occurrences x (x ∷ xs) ≡ 1 + occurrences x xs
+occurs_itself x xs = occurs_cons x x xs ∙ ap (λ b. cond b 1 0 + occurrences x xs) (same_self x)
 
--- an operation before a list stands in it once more
-pub times-cons_itself : (x : Comm) (xs : List Comm) → times x (x ∷ xs) ≡ 1 + times x xs
-unfolding times
-times-cons_itself x xs = ap (λ b. cond b 1 0 + times x xs) (same_refl x)
+-- two lists together
+pub occurs_append : (e : Comm) (xs ys : List Comm) → occurrences e (xs ++ ys) ≡ occurrences e xs + occurrences e ys
+occurs_append e [] ys = omega arith
+occurs_append e (x ∷ xs) ys =
+    let h = occurs_append e xs ys in
+    omega (arith, occurs_cons e x (xs ++ ys), occurs_cons e x xs)
 
--- how often an operation stands in a list with one more
-pub times-cons : (e x : Comm) (xs : List Comm) → times e (x ∷ xs) ≡ one_if_same e x + times e xs
-unfolding times
-times-cons e x xs = refl
+-- one operation more at the end
+pub occurs_push : (e x : Comm) (xs : List Comm) → occurrences e (xs ++ x ∷ []) ≡ occurrences e xs + one_if_same e x
+occurs_push e x xs = omega (arith, occurs_append e xs (x ∷ []), occurs_cons e x [])
 
--- nothing stands in no list
-pub times-nil : (e : Comm) → times e [] ≡ 0
-unfolding times
-times-nil e = refl
+-- the same operation more at the end
+pub push_itself : (x : Comm) (xs : List Comm) → occurrences x (xs ++ x ∷ []) ≡ occurrences x xs + 1
+push_itself x xs = occurs_push x x xs ∙ ap (λ b. occurrences x xs + cond b 1 0) (same_self x)
 
--- how often an operation stands in two lists together
-times-append : (e : Comm) (xs ys : List Comm) → times e (xs ++ ys) ≡ times e xs + times e ys
-unfolding times
-times-append e [] ys = omega arith
-times-append e (x ∷ xs) ys = let h = times-append e xs ys in omega arith
-
--- at first nothing is crossed more often than in any list
-pub nothing_yet : (m : ℕ) (ms : List ℕ) → crossings m [] ≤ crossings m ms
-unfolding crossings
-nothing_yet m ms = omega arith
-
--- a message is crossed once more
-pub crossings-push_itself : (m : ℕ) (ms : List ℕ) → crossings m (ms ++ m ∷ []) ≡ crossings m ms + 1
-unfolding crossings
-crossings-push_itself m [] = ap (λ b. cond b 1 0 + 0) (eq-eqb m m refl)
-crossings-push_itself m (x ∷ xs) = let h = crossings-push_itself m xs in omega arith
-
--- another message is crossed
-pub crossings-push_other : (m n : ℕ) (ms : List ℕ) → nat_eq m n ≡ false → crossings m (ms ++ n ∷ []) ≡ crossings m ms
-unfolding crossings
-crossings-push_other m n [] h = ap (λ b. cond b 1 0 + 0) h
-crossings-push_other m n (x ∷ xs) h = let r = crossings-push_other m n xs h in omega arith
-
--- ---- what a message is to a cell
-times_two : (p r : Bool) (y : Comm) (x : ℕ)
-    → times y (one_if p (Write x) ++ one_if r (Read x)) ≡ cond p (one_if_same y (Write x)) 0 + cond r (one_if_same y (Read x)) 0
-unfolding times
-times_two true true y x = omega arith
-times_two true false y x = omega arith
-times_two false true y x = omega arith
-times_two false false y x = refl
-
--- 0, whatever the test says
-cond_zero : (p : Bool) → ◌≡◌ {A = ℕ} (cond p 0 0) 0
-cond_zero true = refl
-cond_zero false = refl
-
--- a test of either of two numbers, where it matters only if they are the same
-of_same : (f : ℕ → Bool) (m x : ℕ) → ◌≡◌ {A = ℕ} (cond (f x) (cond (nat_eq m x) 1 0) 0) (cond (f m) (cond (nat_eq m x) 1 0) 0)
-of_same f m x =
-    ⊎_elim
-    (λ t. ap (λ k. cond (f k) (cond (nat_eq m x) 1 0) 0) (sym (eqb-true m x t)))
-    (λ n. ap (λ b. cond (f x) (cond b 1 0) 0) n ∙ cond_zero (f x) ∙ sym (ap (λ b. cond (f m) (cond b 1 0) 0) n ∙ cond_zero (f m)))
-    (cases_Bool (nat_eq m x))
-
--- how often an operation stands in what a message is to a cell
-times_seen : (ends : List (ℕ × ℕ)) (c : ℕ) (y : Comm) (x : ℕ)
-    → times y (seen ends c x) ≡ cond (is_of ends c y) (cond (nat_eq (message_of y) x) 1 0) 0
-times_seen ends c (Write m) x =
-    let two = times_two (sends ends c x) (receives ends c x) (Write m) x in
-    let none = cond_zero (receives ends c x) in
-    let is = of_same (sends ends c) m x in
-    omega (arith, two, none, is)
-times_seen ends c (Read m) x =
-    let two = times_two (sends ends c x) (receives ends c x) (Read m) x in
-    let none = cond_zero (sends ends c x) in
-    let is = of_same (receives ends c) m x in
-    omega (arith, two, none, is)
-
--- a sum of two numbers behind one test
+-- a sum of two numbers after one test
 cond_sum : (b : Bool) (x y : ℕ) → cond b x 0 + cond b y 0 ≡ cond b (x + y) 0
 cond_sum true x y = refl
 cond_sum false x y = refl
 
--- how often messages make an operation of a cell
-pub times_made : (s : Sequences) (c : ℕ) (y : Comm) (ms : List ℕ)
-    → times y (made s ms c) ≡ cond (is_of s.ends c y) (crossings (message_of y) ms) 0
-unfolding crossings
-times_made s c y [] = times-nil y ∙ sym (cond_zero (is_of s.ends c y))
-times_made s c y (x ∷ xs) =
-    let tail = times_made s c y xs in
-    let head = times_seen s.ends c y x in
-    let both = times-append y (seen s.ends c x) (made s xs c) in
-    let sum = cond_sum (is_of s.ends c y) (cond (nat_eq (message_of y) x) 1 0) (crossings (message_of y) xs) in
-    both ∙ ap (λ n. n + times y (made s xs c)) head ∙ ap (λ n. cond (is_of s.ends c y) (cond (nat_eq (message_of y) x) 1 0) 0 + n) tail ∙ sum
+-- how often an operation stands among those that pass a test
+pub occurs_kept : (p : Comm → Bool) (e : Comm) (xs : List Comm) → occurrences e (filter p xs) ≡ cond (p e) (occurrences e xs) 0
+occurs_kept p e [] = both (p e)
+  where
+    both : (b : Bool) → ◌≡◌ {A = ℕ} 0 (cond b 0 0)
+    both true = refl
+    both false = refl
+occurs_kept p e (x ∷ xs) =
+    let tail = occurs_kept p e xs in
+    head (p x) refl
+    ∙ ap (λ n. cond (p e) (one_if_same e x) 0 + n) tail ∙ cond_sum (p e) (one_if_same e x) (occurrences e xs)
+    ∙ ap (λ n. cond (p e) n 0) (sym (occurs_cons e x xs))
+  where
+    none : (b : Bool) → ◌≡◌ {A = ℕ} 0 (cond b 0 0)
+    none true = refl
+    none false = refl
+
+    head : (b : Bool) → p x ≡ b
+        → occurrences e (cond b (x ∷ filter p xs) (filter p xs)) ≡ cond (p e) (one_if_same e x) 0 + occurrences e (filter p xs)
+    head true t =
+        ⊎_elim
+        (λ (is : same e x ≡ true).
+        let e_in : p e ≡ true = ap p (same_equal e x is) ∙ t in
+        occurs_cons e x (filter p xs) ∙ ap (λ b. cond b (one_if_same e x) 0 + occurrences e (filter p xs)) (sym e_in))
+        (λ (not : same e x ≡ false).
+        occurs_cons e x (filter p xs)
+        ∙ ap (λ b. cond b 1 0 + occurrences e (filter p xs)) not
+        ∙ ap (λ n. n + occurrences e (filter p xs)) (none (p e))
+        ∙ ap (λ b. cond (p e) (cond b 1 0) 0 + occurrences e (filter p xs)) (sym not))
+        (cases_Bool (same e x))
+    head false t =
+        ⊎_elim
+        (λ (is : same e x ≡ true).
+        let e_out : p e ≡ false = ap p (same_equal e x is) ∙ t in
+        sym (ap (λ b. cond b (one_if_same e x) 0 + occurrences e (filter p xs)) e_out ∙ zero_first (occurrences e (filter p xs))))
+        (λ (not : same e x ≡ false).
+        sym (ap (λ b. cond (p e) (cond b 1 0) 0 + occurrences e (filter p xs)) not
+        ∙ ap (λ n. n + occurrences e (filter p xs)) (sym (none (p e))) ∙ zero_first (occurrences e (filter p xs))))
+        (cases_Bool (same e x))
+      where
+        zero_first : (n : ℕ) → 0 + n ≡ n
+        zero_first n = omega arith
+
+-- ---- two front parts of one list
+-- where the second front part has each operation at least as often, and this one as often, the second rest begins with it
+pub meets : (a b r t : List Comm) (x : Comm) → a ++ x ∷ r ≡ b ++ t → ((y : Comm) → occurrences y a ≤ occurrences y b)
+    → occurrences x a ≡ occurrences x b → t ≡ x ∷ r
+meets [] [] r t x e h s = sym e
+meets [] (y ∷ b) r t x e h s =
+    let xy : x ≡ y = cc in
+    absurd (omega (arith, s, ap (λ z. occurrences z (y ∷ b)) xy, occurs_itself y b))
+meets (y ∷ a) [] r t x e h s = absurd (omega (arith, h y, occurs_itself y a))
+meets (y ∷ a) (z ∷ b) r t x e h s =
+    let yz : y ≡ z = cc in
+    let tail : a ++ x ∷ r ≡ b ++ t = cc in
+    meets a b r t x tail
+    (λ w. omega (arith, h w, occurs_cons w y a, occurs_cons w z b, ap (one_if_same w) yz))
+    (omega (arith, s, occurs_cons x y a, occurs_cons x z b, ap (one_if_same x) yz))
+
+-- a front part that has each operation at most as often is no longer
+pub no_longer : (a b r t : List Comm) → a ++ r ≡ b ++ t → ((y : Comm) → occurrences y a ≤ occurrences y b) → length a ≤ length b
+no_longer [] b r t e h = omega arith
+no_longer (y ∷ a) [] r t e h = absurd (omega (arith, h y, occurs_itself y a))
+no_longer (y ∷ a) (z ∷ b) r t e h =
+    let yz : y ≡ z = cc in
+    let tail : a ++ r ≡ b ++ t = cc in
+    let more = no_longer a b r t tail (λ w. omega (arith, h w, occurs_cons w y a, occurs_cons w z b, ap (one_if_same w) yz)) in
+    omega arith

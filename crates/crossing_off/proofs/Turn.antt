@@ -1,181 +1,321 @@
 -- What the state of crossing-off keeps from turn to turn.
-use Rattle.std.proofs.Common.{◌≡◌, ◌≢◌, ℕ, ◌<◌, ◌≤◌, ◌↔◌, List, [], ◌∷◌, ◌++◌, Option, None, Some, length, get_or, take, drop, EachIndex, IsTrue, sum_by, slice_get, slice_index, sym, ◌∙◌, ap, subst, ⊎_elim, arith}
-use Rattle.std.specs.Ordering.{nat_cmp}
-use Rattle.std.specs.BTreeSet.{BTreeSet, contains}
-use Rattle.std.proofs.lemmas.List.{get_or-set_same, get_or-set_other, length-set}
+use Rattle.std.proofs.Common.{◌≡◌, ◌≢◌, ℕ, zero, suc, ◌+◌, ◌-◌, ◌*◌, ◌<◌, ◌≤◌, ◌⊎◌, inl, inr, max, cond, nat_eq, List, [], ◌∷◌, ◌++◌, Option, None, Some, length, get_or, set, take, drop, sum_by, slice_get, slice_index, sym, ◌∙◌, ap, subst, refl, ⊎_elim, arith}
+use Rattle.std.specs.BTreeSet.{btree_set_len}
+use Rattle.std.proofs.lemmas.Bool.{cases_eq, ne_eqb}
+use Rattle.std.proofs.lemmas.List.{take_at, take-append-le}
 use Rattle.std.proofs.lemmas.Option.{slice_get_within}
-use Rattle.comm_sequence.specs.Sequences.{Sequences, IsSequences}
+use Rattle.comm_sequence.specs.BufferedOrder.{occurrences}
+use Rattle.comm_sequence.specs.Sequences.{Sequences, IsSequences, message_of}
 use Rattle.comm_sequence.specs.declared.comm.Comm.{Comm}
 use Rattle.comm_sequence.specs.declared.comm.Comm.TheVariants.{Write, Read}
+use Rattle.crossing_off.specs.declared.waiting.Waiting.{Waiting}
 use Rattle.crossing_off.specs.declared.worklist.Crossing.{Crossing}
-use Rattle.crossing_off.specs.Greedy.{front, IsReady, IsLeastReady}
-use Rattle.crossing_off.specs.Worklist.{front_at, moved_on, work_left, HasAdded, HasAdvanced, HasPopped, IsAllTried, IsUnderWay, IsComplete, IsPopped}
-use Rattle.crossing_off.proofs.Ends.{HasEnds, has_ends_at, front_known}
-use Rattle.crossing_off.proofs.Lists.{at_some, some_and}
-use Rattle.crossing_off.proofs.Seen.{IsReached}
-use Rattle.crossing_off.proofs.Step.{rests_of, rest_at, rests_long, front_now, StandsFirst, rest_sender, rests_after, reached_after, IsFrontOf, ready_after, ready_first, moved_less, greedy_push}
+use Rattle.crossing_off.specs.Greedy.{cell_of, front, GoesFirst, IsChosen, IsFront, IsStuck, IsWanted, MayAll, MayCross}
+use Rattle.crossing_off.specs.bodies.Waiting.{HasAdded, HasNoted, HasPopped, NoneWait, Waits, waiting_len}
+use Rattle.crossing_off.specs.bodies.Worklist.{front_at, moved_on, work_left, AreCounts, CanCount, HasAdvanced, HasCounted, IsComplete, IsPopped, IsUnderWay}
+use Rattle.crossing_off.proofs.Counting.{counts_read, counts_write}
+use Rattle.crossing_off.proofs.Counts.{occurs_push}
+use Rattle.crossing_off.proofs.Ends.{HasCell, front_known}
+use Rattle.crossing_off.proofs.WhatIsLeft.{front_now, moved_less, rest_at, rests_after, rests_long, rests_of}
+use Rattle.crossing_off.proofs.Runs.{Holds, first_of, holds_all}
+use Rattle.crossing_off.proofs.Steps.{StandsFirst, is_front, other_cell, rest_other, stands_first}
+use Rattle.crossing_off.proofs.Tests.{same_cell}
+use Rattle.crossing_off.proofs.Added.{added_keeps, added_len, added_only, added_waits, noted_keeps, noted_known, noted_len, noted_waits}
 
--- other messages wait, and all else is the same
-under_way_waiting : (s : Sequences) (old : Crossing) (waiting : BTreeSet ℕ) → IsUnderWay s old
-    → ((m : ℕ) → IsTrue (contains nat_cmp waiting m) → m < length s.ends) → IsUnderWay s (record old { waiting = waiting })
-under_way_waiting s old waiting h below = record {
+-- what holds after the operations so far
+pub holds_now : (s : Sequences) (buffer : ℕ) (now : Crossing) → IsUnderWay s buffer now → Holds s buffer now.order.items
+holds_now s buffer now h = holds_all s buffer now.order.items h.sound (λ k e at. (h.greedy k e at).may)
+
+-- other operations wait, and all else is the same
+waiting_now : (s : Sequences) (buffer : ℕ) (old : Crossing) (waiting : Waiting) → IsUnderWay s buffer old
+    → ((e : Comm) → Waits waiting e → message_of e < length s.ends) → IsUnderWay s buffer (record old { waiting = waiting })
+waiting_now s buffer old waiting h known = record {
   sound = h.sound;
+  small = h.small;
   rests = h.rests;
-  reached = h.reached;
+  counts = h.counts;
   greedy = h.greedy;
-  below = below;
+  known = known;
 }
 
--- the message of a front is one of the messages
-front_of_below : (s : Sequences) (order : List ℕ) (c m : ℕ) (o : Option Comm) → IsSequences s → c < length s.lists → front s order c ≡ o → IsFrontOf o m → m < length s.ends
-front_of_below s order c m None sound l e h = absurd h
-front_of_below s order c m (Some x) sound l e h = let P : ℕ → Type 0 = λ i. i < length s.ends in subst P h (front_known s order c x sound l e)
+-- ---- an operation is taken from those that wait
+popped_waited : (old new : Waiting) (e : Comm) → HasPopped old new e → Waits old e
+popped_waited old new (Read m) p = p.0.was
+popped_waited old new (Write m) p = p.1.was
 
--- those that wait are messages, and so is the one that was added
-pub added_below : (s : Sequences) (order : List ℕ) (c : ℕ) (o : Option Comm) (old new : BTreeSet ℕ) → IsSequences s → c < length s.lists → front s order c ≡ o
-    → HasAdded o old new → ((m : ℕ) → IsTrue (contains nat_cmp old m) → m < length s.ends) → (m : ℕ) → IsTrue (contains nat_cmp new m) → m < length s.ends
-added_below s order c o old new sound l e h below m w =
-    ⊎_elim (below m) (λ f. front_of_below s order c m o sound l e f) (h.only m w)
+popped_only : (old new : Waiting) (e x : Comm) → HasPopped old new e → Waits new x → Waits old x
+popped_only old new (Read m) (Read k) p w = p.0.only k w
+popped_only old new (Read m) (Write k) p w = subst (λ set. Waits (record old { writes = set }) (Write k)) p.1 w
+popped_only old new (Write m) (Read k) p w = absurd (p.0.after k w)
+popped_only old new (Write m) (Write k) p w = p.1.only k w
 
--- the message that was added waits
-pub added_waits : (front : Option Comm) (old new : BTreeSet ℕ) (m : ℕ) → HasAdded front old new → IsFrontOf front m → IsTrue (contains nat_cmp new m)
-added_waits None old new m h f = absurd f
-added_waits (Some e) old new m h f = let P : ℕ → Type 0 = λ i. IsTrue (contains nat_cmp new i) in subst P f h.added
+popped_first : (old new : Waiting) (e x : Comm) → HasPopped old new e → Waits old x → GoesFirst e x
+popped_first old new (Read m) (Read k) p w = p.0.least k w
+popped_first old new (Read m) (Write k) p w = tt
+popped_first old new (Write m) (Read k) p w = absurd (p.0.before k w)
+popped_first old new (Write m) (Write k) p w = p.1.least k w
 
--- ---- a message is taken from those that wait
-pub popped : (s : Sequences) (old new : Crossing) (m : ℕ) → IsUnderWay s old → IsComplete s old → HasPopped old new m → IsUnderWay s new × IsPopped s new m
-popped s old new m h complete p =
-    let w = new.waiting in
-    let P : Crossing → Type 0 = λ now. IsUnderWay s now × IsPopped s now m in
-    subst P (sym p.kept) (
-      under_way_waiting s old w h (λ q x. h.below q (p.only q x)),
-      record {
-        below = h.below m p.waited;
-        least = λ other r. p.least other (complete other r);
-        others = λ other r. p.others other (complete other r);
-      },
-    )
+popped_others : (old new : Waiting) (e x : Comm) → HasPopped old new e → Waits old x → (x ≡ e) ⊎ Waits new x
+popped_others old new (Read m) (Read k) p w = ⊎_elim (λ (same : k ≡ m). inl (ap Read same)) (λ rest. inr rest) (p.0.others k w)
+popped_others old new (Read m) (Write k) p w = inr (subst (λ set. Waits (record old { writes = set }) (Write k)) (sym p.1) w)
+popped_others old new (Write m) (Read k) p w = absurd (p.0.before k w)
+popped_others old new (Write m) (Write k) p w = ⊎_elim (λ (same : k ≡ m). inl (ap Write same)) (λ rest. inr rest) (p.1.others k w)
+
+-- the state once one is taken
+pub popped : (s : Sequences) (buffer : ℕ) (old : Crossing) (waiting : Waiting) (e : Comm) → IsUnderWay s buffer old → IsComplete s buffer old
+    → HasPopped old.waiting waiting e → IsUnderWay s buffer (record old { waiting = waiting }) × IsPopped s buffer (record old { waiting = waiting }) e
+popped s buffer old waiting e h complete p = (
+  waiting_now s buffer old waiting h (λ x w. h.known x (popped_only old.waiting waiting e x p w)),
+  record {
+    known = h.known e (popped_waited old.waiting waiting e p);
+    first = λ other may. popped_first old.waiting waiting e other p (complete other may);
+    others = λ other may. popped_others old.waiting waiting e other p (complete other may);
+  },
+)
+
+-- there is less to try
+pub popped_less : (old : Crossing) (waiting : Waiting) (e : Comm) → HasPopped old.waiting waiting e → work_left (record old { waiting = waiting }) < work_left old
+popped_less old waiting (Read m) p = omega (arith, p.0.len, ap btree_set_len p.1)
+popped_less old waiting (Write m) p = omega (arith, p.0.len, p.1.len)
 
 -- ---- none is left to try
-pub all_tried : (s : Sequences) (old new : Crossing) → IsUnderWay s old → IsComplete s old → IsAllTried old new
-    → IsUnderWay s new × ((m : ℕ) → IsReady s new.order.items m → ⊥)
-all_tried s old new h complete t =
-    let P : Crossing → Type 0 = λ now. IsUnderWay s now × ((m : ℕ) → IsReady s now.order.items m → ⊥) in
-    subst P (sym t.kept)
-    (under_way_waiting s old new.waiting h (λ m w. absurd (t.none_waits m w)), λ m r. t.none_waited m (complete m r))
+none_waited : (old new : Waiting) (e : Comm) → NoneWait old new → Waits old e → ⊥
+none_waited old new (Read m) h w = h.reads.before m w
+none_waited old new (Write m) h w = h.writes.before m w
 
--- ---- whether a message can be crossed
-abbrev pub stands_first : (s : Sequences) (order : List ℕ) (m : ℕ) (e : HasEnds s m) → IsReady s order m → StandsFirst s order m
-stands_first s order m e ready =
-    let r = at_some (λ (x : ℕ × ℕ). (front s order x.0 ≡ Some (Write m)) × (front s order x.1 ≡ Some (Read m))) (slice_get s.ends m) (e.sender, e.receiver) ready e.is in
-    record { ends = e; write = r.0; read = r.1 }
+none_waits : (old new : Waiting) (e : Comm) → NoneWait old new → Waits new e → ⊥
+none_waits old new (Read m) h w = h.reads.after m w
+none_waits old new (Write m) h w = h.writes.after m w
 
--- a message can be crossed just where its operations stand first in what is left
-pub ready_by_fronts : (s : Sequences) (now : Crossing) (m : ℕ) (x : ℕ × ℕ) → IsUnderWay s now → slice_get s.ends m ≡ Some x
-    → ((front_at now.rests.items x.0 ≡ Some (Write m)) × (front_at now.rests.items x.1 ≡ Some (Read m))) ↔ IsReady s now.order.items m
-ready_by_fronts s now m x h is =
-    let e = has_ends_at s m x h.sound is in
-    let order = now.order.items in
-    let at = λ (c : ℕ) (l : c < length s.lists). ap (λ xs. front_at xs c) h.rests ∙ front_now s order c l in
-    let R : ℕ × ℕ → Type 0 = λ y. (front s order y.0 ≡ Some (Write m)) × (front s order y.1 ≡ Some (Read m)) in (
-      λ both. some_and R (slice_get s.ends m) x is (sym (at x.0 e.sender_in) ∙ both.0, sym (at x.1 e.receiver_in) ∙ both.1),
-      λ ready. let r = at_some R (slice_get s.ends m) x ready is in (at x.0 e.sender_in ∙ r.0, at x.1 e.receiver_in ∙ r.1),
-    )
-
--- something is kept of the sender and of the receiver
-pub cells_there : (s : Sequences) (now : Crossing) (m : ℕ) (x : ℕ × ℕ) → IsUnderWay s now → slice_get s.ends m ≡ Some x
-    → (x.0 < length now.rests.items) × (x.1 < length now.rests.items)
-cells_there s now m x h is =
-    let e = has_ends_at s m x h.sound is in
-    let long = ap length h.rests ∙ rests_long s now.order.items in
-    (omega (arith, long, e.sender_in), omega (arith, long, e.receiver_in))
+pub all_tried : (s : Sequences) (buffer : ℕ) (old : Crossing) (waiting : Waiting) → IsUnderWay s buffer old → IsComplete s buffer old
+    → NoneWait old.waiting waiting → IsUnderWay s buffer (record old { waiting = waiting }) × IsStuck s buffer old.order.items
+all_tried s buffer old waiting h complete t = (
+  waiting_now s buffer old waiting h (λ x w. absurd (none_waits old.waiting waiting x t w)),
+  λ e may. none_waited old.waiting waiting e t (complete e may),
+)
 
 -- ---- it cannot be crossed
-pub not_crossed : (s : Sequences) (now : Crossing) (m : ℕ) → IsPopped s now m → (IsReady s now.order.items m → ⊥) → IsComplete s now
-not_crossed s now m p none q ready =
+pub not_crossed : (s : Sequences) (buffer : ℕ) (now : Crossing) (e : Comm) → IsPopped s buffer now e → (MayCross s buffer now.order.items e → ⊥) → IsComplete s buffer now
+not_crossed s buffer now e p none x may =
     ⊎_elim
-    (λ e. let P : ℕ → Type 0 = λ i. IsReady s now.order.items i in absurd (none (subst P e ready)))
-    (λ w. w)
-    (p.others q ready)
+    (λ (same : x ≡ e). absurd (none (subst (MayCross s buffer now.order.items) same may)))
+    (λ waits. waits)
+    (p.others x may)
 
 -- ---- it is crossed
-some_first : (xs : List Comm) (e : Comm) → slice_get xs 0 ≡ Some e → 1 ≤ length xs
-some_first xs e h = let l = slice_get_within xs 0 e h in omega arith
+-- an operation that may be crossed can be counted
+pub can_count : (s : Sequences) (buffer : ℕ) (now : Crossing) (e : Comm) → IsUnderWay s buffer now → message_of e < length s.ends
+    → MayCross s buffer now.order.items e → CanCount now e
+can_count s buffer now (Write m) h l may =
+    let held = h.counts.held_is m l in
+    let room = may.2 in
+    (omega (arith, l, h.counts.held_len), omega (arith, l, h.counts.wanted_len), omega (arith, held, room, h.small))
+can_count s buffer now (Read m) h l may =
+    let held = h.counts.held_is m l in
+    let less = may.1 in
+    (omega (arith, l, h.counts.held_len), omega (arith, held, less))
 
--- both lists have a first operation, the second also once the first list has moved on
-pub some_sender : (s : Sequences) (now : Crossing) (m : ℕ) → IsUnderWay s now → (f : StandsFirst s now.order.items m) → 1 ≤ length (get_or now.rests.items f.ends.sender [])
-some_sender s now m h f =
-    let at = ap (λ xs. get_or xs f.ends.sender []) h.rests ∙ rest_at s now.order.items f.ends.sender f.ends.sender_in in
-    omega (arith, ap length at, some_first _ (Write m) f.write)
+-- one more operation of the rule
+pub greedy_push : (s : Sequences) (buffer : ℕ) (order : List Comm) (e : Comm)
+    → ((k : ℕ) (x : Comm) → slice_get order k ≡ Some x → IsChosen s buffer (take k order) x) → IsChosen s buffer order e
+    → (k : ℕ) (x : Comm) → slice_get (order ++ e ∷ []) k ≡ Some x → IsChosen s buffer (take k (order ++ e ∷ [])) x
+greedy_push s buffer order e greedy last k x at =
+    ⊎_elim
+    (λ (both : (k ≡ length order) × (x ≡ e)).
+    let P : List Comm → Type 0 = λ es. IsChosen s buffer es x in
+    let Q : Comm → Type 0 = IsChosen s buffer order in
+    subst P (sym (take_at order (e ∷ []) k (sym both.0))) (subst Q (sym both.1) last))
+    (λ (old : slice_get order k ≡ Some x).
+    let P : List Comm → Type 0 = λ es. IsChosen s buffer es x in
+    let l = slice_get_within order k x old in
+    subst P (sym (take-append-le k order (e ∷ []) (omega arith))) (greedy k x old))
+    (pushed_at order e x k at)
+  where
+    pushed_at : (xs : List Comm) (w x : Comm) (k : ℕ) → slice_get (xs ++ w ∷ []) k ≡ Some x → ((k ≡ length xs) × (x ≡ w)) ⊎ (slice_get xs k ≡ Some x)
+    pushed_at [] w x zero h = inl (refl, cc)
+    pushed_at [] w x (suc k) h = absurd (cc h)
+    pushed_at (y ∷ ys) w x zero h = inr h
+    pushed_at (y ∷ ys) w x (suc k) h =
+        ⊎_elim (λ (both : (k ≡ length ys) × (x ≡ w)). inl (omega (arith, both.0), both.1)) (λ rest. inr rest) (pushed_at ys w x k h)
 
--- the receiver has a first operation once the sender has moved on
-pub some_receiver : (s : Sequences) (now : Crossing) (m : ℕ) → IsUnderWay s now → (f : StandsFirst s now.order.items m)
-    → 1 ≤ length (get_or (moved_on now.rests.items f.ends.sender) f.ends.receiver [])
-some_receiver s now m h f =
-    let e = f.ends in
-    let old = now.rests.items in
-    let far : e.receiver ≢ e.sender = λ q. e.apart (sym q) in
-    let at = get_or-set_other old e.sender e.receiver (drop 1 (get_or old e.sender [])) [] far ∙ ap (λ xs. get_or xs e.receiver []) h.rests ∙ rest_at s now.order.items e.receiver e.receiver_in in
-    omega (arith, ap length at, some_first _ (Read m) f.read)
+-- another message does not count
+other_counts : (m n : ℕ) → m ≢ n → ◌≡◌ {A = ℕ} (cond (nat_eq m n) 1 0) 0
+other_counts m n differ = ap {B = ℕ} (λ b. cond b 1 0) (ne_eqb m n differ)
 
--- what is left at the sender once its list has moved on
-sender_moved : (s : Sequences) (now : Crossing) (m : ℕ) → IsUnderWay s now → (e : HasEnds s m)
-    → front_at (moved_on now.rests.items e.sender) e.sender ≡ front s (now.order.items ++ m ∷ []) e.sender
-sender_moved s now m h e =
-    let old = now.rests.items in
-    let long = ap length h.rests ∙ rests_long s now.order.items in
-    let at = ap (λ xs. get_or xs e.sender []) h.rests ∙ rest_at s now.order.items e.sender e.sender_in in
-    ap (λ xs. slice_get xs 0)
-    (get_or-set_same old e.sender (drop 1 (get_or old e.sender [])) [] (omega (arith, long, e.sender_in)) ∙ ap (drop 1) at ∙ sym (rest_sender s now.order.items m e))
+-- the counts of another message stay
+same_counts : (crossed : List Comm) (e : Comm) (m : ℕ) → m ≢ message_of e
+    → (occurrences (Write m) (crossed ++ e ∷ []) ≡ occurrences (Write m) crossed) × (occurrences (Read m) (crossed ++ e ∷ []) ≡ occurrences (Read m) crossed)
+same_counts crossed (Write n) m differ =
+    (omega (arith, occurs_push (Write m) (Write n) crossed, other_counts m n differ), omega (arith, occurs_push (Read m) (Write n) crossed))
+same_counts crossed (Read n) m differ =
+    (omega (arith, occurs_push (Write m) (Read n) crossed), omega (arith, occurs_push (Read m) (Read n) crossed, other_counts m n differ))
 
--- the two advances of a crossing
-pub record HasCrossed (old start middle new : Crossing) (m sender receiver : ℕ) : Type 0 where
+-- the operation at the front of the list that moved on is on this message
+abbrev pub IsNext : Sequences → List Comm → ℕ → ℕ → Type 0
+IsNext s crossed cell m = (y : Comm) × (front s crossed cell ≡ Some y) × (m ≡ message_of y)
+
+-- an operation that stands first is on the message of the next front, or stood first
+front_before : (s : Sequences) (crossed : List Comm) (e x : Comm) → IsSequences s → (f : StandsFirst s crossed e) → IsFront s (crossed ++ e ∷ []) x
+    → IsNext s (crossed ++ e ∷ []) f.home.cell (message_of x) ⊎ IsFront s crossed x
+front_before s crossed e x sound f stands =
+    let g = stands_first s (crossed ++ e ∷ []) x sound stands in
+    ⊎_elim
+    (λ (same : g.home.cell ≡ f.home.cell). inl (x, ap (front_of (crossed ++ e ∷ [])) (sym same) ∙ g.first, refl))
+    (λ (other : g.home.cell ≢ f.home.cell).
+    inr (is_front s crossed x g.home
+    (ap (λ xs. slice_get xs 0) (sym (rest_other s crossed e g.home.cell (other_cell s e f.home g.home.cell other))) ∙ g.first)))
+    (cases_eq g.home.cell f.home.cell)
+  where
+    front_of : List Comm → ℕ → Option Comm
+    front_of es c = front s es c
+
+-- an operation of another message that may be crossed is on the message of the next front, or might be crossed before
+may_before : (s : Sequences) (buffer : ℕ) (crossed : List Comm) (e x : Comm) → IsSequences s → (f : StandsFirst s crossed e)
+    → message_of x ≢ message_of e → MayCross s buffer (crossed ++ e ∷ []) x
+    → IsNext s (crossed ++ e ∷ []) f.home.cell (message_of x) ⊎ MayCross s buffer crossed x
+may_before s buffer crossed e (Read m) sound f differ may =
+    let same = same_counts crossed e m differ in
+    let less = may.1 in
+    ⊎_elim (λ next. inl next) (λ (front : IsFront s crossed (Read m)). inr (front, omega (arith, less, same.0, same.1)))
+    (front_before s crossed e (Read m) sound f may.0)
+may_before s zero crossed e (Write m) sound f differ may =
+    let same = same_counts crossed e m differ in
+    let less = may.2 in
+    ⊎_elim (λ next. inl next)
+    (λ (front : IsFront s crossed (Write m)).
+    ⊎_elim (λ next. inl next) (λ (read : IsFront s crossed (Read m)). inr (front, read, omega (arith, less, same.0, same.1)))
+    (front_before s crossed e (Read m) sound f may.1))
+    (front_before s crossed e (Write m) sound f may.0)
+may_before s (suc d) crossed e (Write m) sound f differ may =
+    let same = same_counts crossed e m differ in
+    let less = may.2 in
+    let some = may.1 in
+    ⊎_elim (λ next. inl next)
+    (λ (front : IsFront s crossed (Write m)). inr (front, omega (arith, some, same.0), omega (arith, less, same.0, same.1)))
+    (front_before s crossed e (Write m) sound f may.0)
+
+-- the steps of a crossing
+pub record HasCrossed (old start counted middle new : Crossing) (e : Comm) (cell : ℕ) : Type 0 where
   pub rests : start.rests.items ≡ old.rests.items
   pub waiting : start.waiting ≡ old.waiting
-  pub order : start.order.items ≡ old.order.items ++ m ∷ []
-  pub first : HasAdvanced start middle sender
-  pub second : HasAdvanced middle new receiver
+  pub held : start.held.items ≡ old.held.items
+  pub wanted : start.wanted.items ≡ old.wanted.items
+  pub order : start.order.items ≡ old.order.items ++ e ∷ []
+  pub count : HasCounted start counted e
+  pub advance : HasAdvanced counted middle cell
+  pub new_rests : new.rests.items ≡ middle.rests.items
+  pub new_held : new.held.items ≡ middle.held.items
+  pub new_wanted : new.wanted.items ≡ middle.wanted.items
+  pub new_order : new.order.items ≡ middle.order.items
+  pub added : HasAdded middle.waiting new.waiting (message_of e)
 
--- after a crossing the rule is under way, each message that can be crossed waits, and no more work is left
-pub crossed : (s : Sequences) (old start middle new : Crossing) (m : ℕ) → IsUnderWay s old → IsPopped s old m → (f : StandsFirst s old.order.items m)
-    → HasCrossed old start middle new m f.ends.sender f.ends.receiver → IsUnderWay s new × IsComplete s new × (work_left new ≤ work_left old)
-crossed s old start middle new m h p f x =
-    let e = f.ends in
-    let w = e.sender in
-    let r = e.receiver in
+-- what counting leaves alone
+pub counted_same : (old new : Crossing) (e : Comm) → HasCounted old new e
+    → (new.rests.items ≡ old.rests.items) × (new.waiting ≡ old.waiting) × (new.order.items ≡ old.order.items)
+counted_same old new (Write m) h = (h.0, h.1, h.2)
+counted_same old new (Read m) h = (h.0, h.1, h.2)
+
+-- the counts after it
+counted_right : (s : Sequences) (buffer : ℕ) (old start counted : Crossing) (e : Comm) → IsUnderWay s buffer old → message_of e < length s.ends
+    → start.held.items ≡ old.held.items → start.wanted.items ≡ old.wanted.items → HasCounted start counted e
+    → AreCounts s counted.held.items counted.wanted.items (old.order.items ++ e ∷ [])
+counted_right s buffer old start counted (Write m) h l held wanted c =
+    let P : List ℕ → List ℕ → Type 0 = λ a b. AreCounts s a b (old.order.items ++ Write m ∷ []) in
+    let a : counted.held.items ≡ set old.held.items m (slice_index old.held.items m + 1) = c.3 ∙ ap (λ xs. set xs m (slice_index xs m + 1)) held in
+    let b : counted.wanted.items ≡ set old.wanted.items m (slice_index old.wanted.items m - 1) = c.4 ∙ ap (λ xs. set xs m (slice_index xs m - 1)) wanted in
+    subst (λ xs. P xs counted.wanted.items) (sym a) (subst (P (set old.held.items m (slice_index old.held.items m + 1))) (sym b)
+    (counts_write s old.held.items old.wanted.items old.order.items m h.counts l ((holds_now s buffer old h).written m)))
+counted_right s buffer old start counted (Read m) h l held wanted c =
+    let P : List ℕ → List ℕ → Type 0 = λ a b. AreCounts s a b (old.order.items ++ Read m ∷ []) in
+    let a : counted.held.items ≡ set old.held.items m (slice_index old.held.items m - 1) = c.3 ∙ ap (λ xs. set xs m (slice_index xs m - 1)) held in
+    let b : counted.wanted.items ≡ old.wanted.items = c.4 ∙ wanted in
+    subst (λ xs. P xs counted.wanted.items) (sym a) (subst (P (set old.held.items m (slice_index old.held.items m - 1))) (sym b)
+    (counts_read s old.held.items old.wanted.items old.order.items m h.counts l))
+
+-- the cell of an operation that stands first has something left
+pub some_left : (s : Sequences) (buffer : ℕ) (now : Crossing) (rests : List (List Comm)) (e : Comm) (f : StandsFirst s now.order.items e) → IsUnderWay s buffer now
+    → rests ≡ now.rests.items → (f.home.cell < length rests) × (1 ≤ length (get_or rests f.home.cell []))
+some_left s buffer now rests e f h is =
+    let all = is ∙ h.rests in
+    let at = ap (λ xs. get_or xs f.home.cell []) all ∙ rest_at s now.order.items f.home.cell f.home.within in
+    let l = slice_get_within _ 0 e f.first in
+    (omega (arith, ap length all, rests_long s now.order.items, f.home.within), omega (arith, ap length at, l))
+
+-- after a crossing the rule is under way, each operation that may be crossed waits, and no more work is left
+pub crossed : (s : Sequences) (buffer : ℕ) (old start counted middle new : Crossing) (e : Comm) → IsUnderWay s buffer old → IsPopped s buffer old e
+    → MayCross s buffer old.order.items e → (f : StandsFirst s old.order.items e) → HasCrossed old start counted middle new e f.home.cell
+    → IsUnderWay s buffer new × IsComplete s buffer new × (work_left new ≤ work_left old)
+crossed s buffer old start counted middle new e h p may f x =
+    let c = f.home.cell in
     let before = old.order.items in
-    let order = before ++ m ∷ [] in
-    let order_is : new.order.items ≡ order = x.second.order ∙ x.first.order ∙ x.order in
-    let half : middle.rests.items ≡ moved_on old.rests.items w = x.first.rests ∙ ap (λ xs. moved_on xs w) x.rests in
-    let all : new.rests.items ≡ moved_on (moved_on old.rests.items w) r = x.second.rests ∙ ap (λ xs. moved_on xs r) half in
-    let rests : new.rests.items ≡ rests_of s order = all ∙ ap (λ xs. moved_on (moved_on xs w) r) h.rests ∙ rests_after s before m e in
+    let order = before ++ e ∷ [] in
+    let same = counted_same start counted e x.count in
+    let order_is : new.order.items ≡ order = x.new_order ∙ x.advance.order ∙ same.2 ∙ x.order in
+    let old_rests : counted.rests.items ≡ old.rests.items = same.0 ∙ x.rests in
+    let half : middle.rests.items ≡ moved_on old.rests.items c = x.advance.rests ∙ ap (λ xs. moved_on xs c) old_rests in
+    let mid_rests : middle.rests.items ≡ rests_of s order = half ∙ ap (λ xs. moved_on xs c) h.rests ∙ rests_after s before e f.home in
+    let rests : new.rests.items ≡ rests_of s order = x.new_rests ∙ mid_rests in
+    let mid_front : front_at middle.rests.items c ≡ front s order c = ap (λ xs. front_at xs c) mid_rests ∙ front_now s order c f.home.within in
+    let old_waiting : counted.waiting ≡ old.waiting = same.1 ∙ x.waiting in
+    let noted = subst (λ w. HasNoted (front_at middle.rests.items c) w middle.waiting) old_waiting x.advance.waiting in
     let back = sym order_is in
-    let front_w : front s order w ≡ front_at middle.rests.items w = sym (ap (λ xs. front_at xs w) half ∙ sender_moved s old m h e) in
-    let front_r : front s order r ≡ front_at new.rests.items r = sym (ap (λ xs. front_at xs r) rests ∙ front_now s order r e.receiver_in) in
-    let Starts : BTreeSet ℕ → Type 0 = λ ws. HasAdded (front_at middle.rests.items w) ws middle.waiting in
-    let added_w : HasAdded (front_at middle.rests.items w) old.waiting middle.waiting = subst Starts x.waiting x.first.waiting in
-    let added_r = x.second.waiting in
-    let AllReached : List ℕ → Type 0 = λ ms. EachIndex s.lists (IsReached s ms) in
-    let AllGreedy : List ℕ → Type 0 = λ ms. EachIndex ms (λ k. IsLeastReady s (take k ms) (slice_index ms k)) in
-    let long = ap length h.rests ∙ rests_long s before in
-    let less_w = moved_less old.rests.items w (omega (arith, long, e.sender_in)) (some_sender s old m h f) in
-    let less_r = moved_less (moved_on old.rests.items w) r (omega (arith, long, e.receiver_in, length-set old.rests.items w (drop 1 (get_or old.rests.items w [])))) (some_receiver s old m h f) in (
+    let counts = counted_right s buffer old start counted e h p.known x.held x.wanted x.count in
+    let held : new.held.items ≡ counted.held.items = x.new_held ∙ x.advance.held in
+    let wanted : new.wanted.items ≡ counted.wanted.items = x.new_wanted ∙ x.advance.wanted in
+    let C : List ℕ → List ℕ → List Comm → Type 0 = λ a b es. AreCounts s a b es in
+    let G : List Comm → Type 0 = λ es. (k : ℕ) (y : Comm) → slice_get es k ≡ Some y → IsChosen s buffer (take k es) y in
+    let there = some_left s buffer old old.rests.items e f h refl in
+    let less = moved_less old.rests.items c there.0 there.1 in
+    let mid_known = noted_known (length s.ends) (front_at middle.rests.items c) old.waiting middle.waiting noted
+    (λ y at. front_known s order c y h.sound f.home.within (sym mid_front ∙ at)) h.known in (
       record {
         sound = h.sound;
+        small = h.small;
         rests = rests ∙ ap (rests_of s) back;
-        reached = subst AllReached back (reached_after s before m f h.reached);
-        greedy = subst AllGreedy back (greedy_push s before m h.greedy (record { ready = ready_first s before m f; least = p.least }));
-        below = added_below s order r (front_at new.rests.items r) middle.waiting new.waiting h.sound e.receiver_in front_r added_r
-            (added_below s order w (front_at middle.rests.items w) old.waiting middle.waiting h.sound e.sender_in front_w added_w h.below);
+        counts = subst (λ a. C a new.wanted.items new.order.items) (sym held) (subst (λ b. C counted.held.items b new.order.items) (sym wanted)
+            (subst (C counted.held.items counted.wanted.items) back counts));
+        greedy = subst G back (greedy_push s buffer before e h.greedy (record { may = may; first = p.first }));
+        known = λ y w.
+            ⊎_elim (λ (was : Waits middle.waiting y). mid_known y was) (λ (is : message_of y ≡ message_of e). let l = p.known in omega (arith, is, l))
+            (added_only middle.waiting new.waiting (message_of e) y x.added w);
       },
-      λ q ready. let IsReadyAt : List ℕ → Type 0 = λ ms. IsReady s ms q in
-          let Of : Option Comm → Type 0 = λ o. IsFrontOf o q in
+      λ y ready.
+          let ready : MayCross s buffer order y = subst (λ es. MayCross s buffer es y) order_is ready in
           ⊎_elim
-          (λ a. added_r.kept q (added_waits (front_at middle.rests.items w) old.waiting middle.waiting q added_w (subst Of front_w a)))
-          (λ rest. ⊎_elim
-          (λ b. added_waits (front_at new.rests.items r) middle.waiting new.waiting q added_r (subst Of front_r b))
-          (λ both. ⊎_elim (λ same. absurd (both.1 same)) (λ waits. added_r.kept q (added_w.kept q waits)) (p.others q both.0))
-          rest)
-          (ready_after s before m q e (subst IsReadyAt order_is ready)),
-      omega (arith, added_w.len, added_r.len, less_w, less_r, ap (sum_by length) all),
+          (λ (mine : message_of y ≡ message_of e). added_waits middle.waiting new.waiting (message_of e) y x.added mine)
+          (λ (differ : message_of y ≢ message_of e).
+          added_keeps middle.waiting new.waiting (message_of e) y x.added
+          (⊎_elim
+          (λ (next : IsNext s order c (message_of y)).
+          noted_waits (front_at middle.rests.items c) old.waiting middle.waiting next.0 y noted (mid_front ∙ next.1) next.2)
+          (λ (could : MayCross s buffer before y).
+          noted_keeps (front_at middle.rests.items c) old.waiting middle.waiting y noted
+          (⊎_elim (λ (is : y ≡ e). absurd (differ (ap message_of is))) (λ waits. waits) (p.others y could)))
+          (may_before s buffer before e y h.sound f differ ready)))
+          (cases_eq (message_of y) (message_of e)),
+      omega (
+        arith,
+        noted_len (front_at middle.rests.items c) old.waiting middle.waiting noted,
+        added_len middle.waiting new.waiting (message_of e) x.added,
+        less,
+        ap (sum_by length) x.new_rests,
+        ap (sum_by length) half,
+      ),
     )
+
+-- the cell of an operation that may be crossed has something left
+pub cell_left : (s : Sequences) (buffer : ℕ) (now : Crossing) (rests : List (List Comm)) (e : Comm) (c : ℕ) → IsUnderWay s buffer now
+    → MayCross s buffer now.order.items e → cell_of s.ends e ≡ Some c → rests ≡ now.rests.items → (c < length rests) × (1 ≤ length (get_or rests c []))
+cell_left s buffer now rests e c h may at is =
+    let f = first_of s buffer now.order.items e h.sound may in
+    let P : ℕ → Type 0 = λ k. (k < length rests) × (1 ≤ length (get_or rests k [])) in
+    subst P (sym (same_cell s e c f.home at)) (some_left s buffer now rests e f h is)
+
+-- after a crossing, by the cell that is found
+pub crossed_at : (s : Sequences) (buffer : ℕ) (old start counted middle new : Crossing) (e : Comm) (c : ℕ) → IsUnderWay s buffer old
+    → IsPopped s buffer old e → MayCross s buffer old.order.items e → cell_of s.ends e ≡ Some c → HasCrossed old start counted middle new e c
+    → IsUnderWay s buffer new × IsComplete s buffer new × (work_left new ≤ work_left old)
+crossed_at s buffer old start counted middle new e c h p may at x =
+    let f = first_of s buffer old.order.items e h.sound may in
+    crossed s buffer old start counted middle new e h p may f
+    (subst (HasCrossed old start counted middle new e) (same_cell s e c f.home at) x)

@@ -13,26 +13,26 @@ use Rattle.comm_sequence.specs.declared.comm.Comm.{Comm}
 use Rattle.comm_sequence.specs.declared.comm.Comm.TheVariants.{Write, Read}
 use Rattle.crossing_off.specs.declared.answer.Residue.{Residue}
 use Rattle.crossing_off.specs.declared.waits.Wait.{Wait}
-use Rattle.crossing_off.specs.declared.waits.WaitWalk.{WaitWalk}
+use Rattle.crossing_off.specs.declared.waits.WalkEnd.{WalkEnd}
 use Rattle.crossing_off.specs.declared.waits.WalkEnd.TheVariants.{Again, NothingLeft}
 use Rattle.crossing_off.specs.Answer.{IsResidue}
 use Rattle.crossing_off.specs.Greedy.{rest, front}
-use Rattle.crossing_off.specs.Walk.{partner_of, HasFront, IsLeastLeft, IsWait, IsEnd, IsWalk}
+use Rattle.crossing_off.specs.Walk.{partner_of, HasFront, IsLeastLeft, IsWait, IsEnd, IsWalkOver}
 use Rattle.crossing_off.proofs.Ends.{has_ends_at, front_known}
 use Rattle.crossing_off.proofs.Exact.{cell_at}
 use Rattle.crossing_off.proofs.OneWalk.{not_both}
 use Rattle.crossing_off.proofs.Lists.{at_some, some_and, is_there}
 
 -- ---- the fronts of a residue
-pub fronts_long : (s : Sequences) (r : Residue) → IsResidue s r → length r.fronts.items ≡ length s.lists
+pub fronts_long : {b : ℕ} (s : Sequences) (r : Residue) → IsResidue s b r → length r.fronts.items ≡ length s.lists
 fronts_long s r h = ap length h.fronts_are ∙ length-map-range_with_len (front s h.crossed) 0 (length s.lists)
 
 -- a front of a residue is what the rule leaves first
-pub front_is : (s : Sequences) (r : Residue) (h : IsResidue s r) (c : ℕ) (d : Option Comm) → c < length s.lists → get_or r.fronts.items c d ≡ front s h.crossed c
+pub front_is : {b : ℕ} (s : Sequences) (r : Residue) (h : IsResidue s b r) (c : ℕ) (d : Option Comm) → c < length s.lists → get_or r.fronts.items c d ≡ front s h.crossed c
 front_is s r h c d l = ap (λ xs. get_or xs c d) h.fronts_are ∙ get_or-map-range_with_len (front s h.crossed) 0 (length s.lists) c c d l (omega arith)
 
 -- a front is on a message
-pub on_known : (s : Sequences) (r : Residue) (c : ℕ) (e : Comm) → IsSequences s → IsResidue s r → c < length s.lists → get_or r.fronts.items c None ≡ Some e → message_of e < length s.ends
+pub on_known : {b : ℕ} (s : Sequences) (r : Residue) (c : ℕ) (e : Comm) → IsSequences s → IsResidue s b r → c < length s.lists → get_or r.fronts.items c None ≡ Some e → message_of e < length s.ends
 on_known s r c e sound h l f = front_known s h.crossed c e sound l (sym (front_is s r h c None l) ∙ f)
 
 -- a sum of some terms has a term that is not 0
@@ -45,14 +45,14 @@ some_of f (x ∷ xs) h =
     (cases_lt 0 (f x))
 
 -- a sum over all cells has a cell whose term is not 0
-some_term : (f : ℕ → ℕ) (n : ℕ) → 1 ≤ sum_by f (below n) → (c : ℕ) × (c < n) × (1 ≤ f c)
+pub some_term : (f : ℕ → ℕ) (n : ℕ) → 1 ≤ sum_by f (below n) → (c : ℕ) × (c < n) × (1 ≤ f c)
 some_term f n h =
     let some = some_of f (below n) h in
     let l : some.0 < n = omega (arith, some.1, length-range_with_len 0 n) in
     (some.0, l, omega (arith, some.2, ap f (cell_at n some.0 l)))
 
 -- a cell has something left
-pub something_left : (s : Sequences) (r : Residue) → IsResidue s r → 1 ≤ r.left → (c : ℕ) × (e : Comm) × HasFront r.fronts.items c e
+pub something_left : {b : ℕ} (s : Sequences) (r : Residue) → IsResidue s b r → 1 ≤ r.left → (c : ℕ) × (e : Comm) × HasFront r.fronts.items c e
 something_left s r h l =
     let some = some_term (λ c. length (rest s h.crossed c)) (length s.lists) (omega (arith, h.left_is, l)) in
     let c = some.0 in
@@ -79,31 +79,31 @@ partner_in s (Read m) p sound h =
 abbrev pub unvisited : List Bool → ℕ
 unvisited visited = sum_by (λ b. cond b 0 1) visited
 
--- The walk so far: it is at this cell, these waits are behind it, and just their cells are visited.
-pub record IsWalking (s : Sequences) (r : Residue) (waits : List Wait) (visited : List Bool) (cell : ℕ) : Type 0 where
+-- The walk so far: it is at this cell, these waits came before it, and just their cells are visited.
+pub record IsWalking (s : Sequences) (fs : List (Option Comm)) (waits : List Wait) (visited : List Bool) (cell : ℕ) : Type 0 where
   pub sound : IsSequences s
   pub inside : cell < length s.lists
   pub long : length visited ≡ length s.lists
-  pub begins : waits ≡ [] → IsLeastLeft r.fronts.items cell
-  pub begun : 0 < length waits → IsSomeAnd (slice_get waits 0) (λ first. IsLeastLeft r.fronts.items first.cell)
+  pub begins : waits ≡ [] → IsLeastLeft fs cell
+  pub begun : 0 < length waits → IsSomeAnd (slice_get waits 0) (λ first. IsLeastLeft fs first.cell)
   pub last : 0 < length waits → IsSomeAnd (slice_get waits (length waits - 1)) (λ last. last.partner ≡ cell)
-  pub are_waits : All (IsWait s r.fronts.items) waits
+  pub are_waits : All (IsWait s fs) waits
   pub goes_on : (k : ℕ) (wait next : Wait) → slice_get waits k ≡ Some wait → slice_get waits (suc k) ≡ Some next → next.cell ≡ wait.partner
   pub differ : (j k : ℕ) (a b : Wait) → slice_get waits j ≡ Some a → slice_get waits k ≡ Some b → a.cell ≡ b.cell → j ≡ k
   pub marked : (c : ℕ) → get_or visited c false ≡ true → Contains (map (λ (w : Wait). w.cell) waits) c
   pub all_marked : (k : ℕ) (w : Wait) → slice_get waits k ≡ Some w → get_or visited w.cell false ≡ true
 
 -- a walk before its first wait
-pub walking_start : (s : Sequences) (r : Residue) (visited : List Bool) (cell : ℕ) → IsSequences s → IsLeastLeft r.fronts.items cell → cell < length s.lists
-    → length visited ≡ length s.lists → ((c : ℕ) → get_or visited c false ≡ false) → IsWalking s r [] visited cell
-walking_start s r visited cell sound least inside long fresh = record {
+pub walking_start : (s : Sequences) (fs : List (Option Comm)) (visited : List Bool) (cell : ℕ) → IsSequences s → IsLeastLeft fs cell → cell < length s.lists
+    → length visited ≡ length s.lists → ((c : ℕ) → get_or visited c false ≡ false) → IsWalking s fs [] visited cell
+walking_start s fs visited cell sound least inside long fresh = record {
   sound = sound;
   inside = inside;
   long = long;
   begins = λ e. least;
   begun = λ l. absurd (omega arith);
   last = λ l. absurd (omega arith);
-  are_waits = All-nil (IsWait s r.fronts.items);
+  are_waits = All-nil (IsWait s fs);
   goes_on = λ k wait next p q. absurd (omega (arith, slice_get_within {A = Wait} [] k wait p));
   differ = λ j k a b p q e. absurd (omega (arith, slice_get_within {A = Wait} [] j a p));
   marked = λ c v. absurd (false≢true (sym (fresh c) ∙ v));
@@ -132,16 +132,16 @@ last_pushed xs w k e =
     slice_get-get_or (xs ++ w ∷ []) k w (omega (arith, length_push xs w)) ∙ ap Some (get_or_push xs w w k (sym e))
 
 -- ---- one wait more
-module _ (s : Sequences) (r : Residue) (waits : List Wait) (visited : List Bool) (cell : ℕ) (front : Comm) (partner : ℕ)
-    (h : IsWalking s r waits visited cell) (f : HasFront r.fronts.items cell front) (p : partner_of s.ends front ≡ Some partner) (v : get_or visited cell false ≡ false) where
+module _ (s : Sequences) (fs : List (Option Comm)) (waits : List Wait) (visited : List Bool) (cell : ℕ) (front : Comm) (partner : ℕ)
+    (h : IsWalking s fs waits visited cell) (f : HasFront fs cell front) (p : partner_of s.ends front ≡ Some partner) (v : get_or visited cell false ≡ false) where
   -- the wait at the cell
   abbrev here : Wait
   here = record { cell = cell; front = front; partner = partner }
 
   -- the walk begins at the least cell
-  first_more : IsSomeAnd (slice_get (waits ++ here ∷ []) 0) (λ first. IsLeastLeft r.fronts.items first.cell)
+  first_more : IsSomeAnd (slice_get (waits ++ here ∷ []) 0) (λ first. IsLeastLeft fs first.cell)
   first_more =
-      let P : Wait → Type 0 = λ first. IsLeastLeft r.fronts.items first.cell in
+      let P : Wait → Type 0 = λ first. IsLeastLeft fs first.cell in
       let first = is_there (waits ++ here ∷ []) 0 (omega (arith, length_push waits here)) in
       some_and P (slice_get (waits ++ here ∷ []) 0) first.0 first.1
       (⊎_elim
@@ -210,7 +210,7 @@ module _ (s : Sequences) (r : Residue) (waits : List Wait) (visited : List Bool)
       (pushed_at waits here w k a)
 
   -- the walk after one more wait
-  pub walking_more : IsWalking s r (waits ++ here ∷ []) (set visited cell true) partner
+  pub walking_more : IsWalking s fs (waits ++ here ∷ []) (set visited cell true) partner
   walking_more = record {
     sound = h.sound;
     inside = partner_in s front partner h.sound p;
@@ -218,8 +218,8 @@ module _ (s : Sequences) (r : Residue) (waits : List Wait) (visited : List Bool)
     begins = λ e. absurd (omega (arith, ap length e, length_push waits here));
     begun = λ l. first_more;
     last = λ l. last_more;
-    are_waits = All-append (IsWait s r.fronts.items) waits (here ∷ []) h.are_waits
-        (All-cons (IsWait s r.fronts.items) here [] (record { front = f; partner = p }) (All-nil (IsWait s r.fronts.items)));
+    are_waits = All-append (IsWait s fs) waits (here ∷ []) h.are_waits
+        (All-cons (IsWait s fs) here [] (record { front = f; partner = p }) (All-nil (IsWait s fs)));
     goes_on = goes_on_more;
     differ = differ_more;
     marked = marked_more;
@@ -228,34 +228,29 @@ module _ (s : Sequences) (r : Residue) (waits : List Wait) (visited : List Bool)
 
 -- ---- the end
 -- a walk with a wait, and its end
-pub walked : (s : Sequences) (r : Residue) (waits : List Wait) (visited : List Bool) (cell : ℕ) (walk : WaitWalk) → IsWalking s r waits visited cell → 0 < length waits
-    → walk.waits.items ≡ waits → IsEnd r.fronts.items waits walk.end → IsWalk s r walk
-walked s r waits visited cell walk h some e end =
-    let P : List Wait → Type 0 = λ ws. IsSomeAnd (slice_get ws 0) (λ first. IsLeastLeft r.fronts.items first.cell) in
-    let Q : List Wait → Type 0 = λ ws. (k : ℕ) (wait next : Wait) → slice_get ws k ≡ Some wait → slice_get ws (suc k) ≡ Some next → next.cell ≡ wait.partner in
-    let D : List Wait → Type 0 = λ ws. (j k : ℕ) (a b : Wait) → slice_get ws j ≡ Some a → slice_get ws k ≡ Some b → a.cell ≡ b.cell → j ≡ k in
-    let E : List Wait → Type 0 = λ ws. IsEnd r.fronts.items ws walk.end in
-    record {
-      begins = subst P (sym e) (h.begun some);
-      waits = subst (All (IsWait s r.fronts.items)) (sym e) h.are_waits;
-      goes_on = subst Q (sym e) h.goes_on;
-      differ = subst D (sym e) h.differ;
-      ends = subst E (sym e) end;
-    }
+pub walked : (s : Sequences) (fs : List (Option Comm)) (waits : List Wait) (visited : List Bool) (cell : ℕ) (end : WalkEnd)
+    → IsWalking s fs waits visited cell → 0 < length waits → IsEnd fs waits end → IsWalkOver s fs waits end
+walked s fs waits visited cell end h some ends = record {
+  begins = h.begun some;
+  are_waits = h.are_waits;
+  goes_on = h.goes_on;
+  differ = h.differ;
+  ends = ends;
+}
 
 -- a visited cell is that of a wait
-pub end_again : (s : Sequences) (r : Residue) (waits : List Wait) (visited : List Bool) (cell : ℕ) → IsWalking s r waits visited cell → get_or visited cell false ≡ true
-    → (0 < length waits) × IsEnd r.fronts.items waits (Again cell)
-end_again s r waits visited cell h v =
+pub end_again : (s : Sequences) (fs : List (Option Comm)) (waits : List Wait) (visited : List Bool) (cell : ℕ) → IsWalking s fs waits visited cell → get_or visited cell false ≡ true
+    → (0 < length waits) × IsEnd fs waits (Again cell)
+end_again s fs waits visited cell h v =
     let c = h.marked cell v in
     let some : 0 < length waits = omega (arith, c.1, length-map waits (λ (w : Wait). w.cell)) in
     (some, (h.last some, c))
 
 -- a cell with nothing left is not the first
-pub end_nothing : (s : Sequences) (r : Residue) (waits : List Wait) (visited : List Bool) (cell : ℕ) → IsWalking s r waits visited cell → slice_get r.fronts.items cell ≡ Some None
-    → (0 < length waits) × IsEnd r.fronts.items waits (NothingLeft cell)
-end_nothing s r waits visited cell h n =
+pub end_nothing : (s : Sequences) (fs : List (Option Comm)) (waits : List Wait) (visited : List Bool) (cell : ℕ) → IsWalking s fs waits visited cell → slice_get fs cell ≡ Some None
+    → (0 < length waits) × IsEnd fs waits (NothingLeft cell)
+end_nothing s fs waits visited cell h n =
     ⊎_elim
     (λ some. (some, (h.last some, n)))
-    (λ z. let least = h.begins (none_there waits (omega arith)) in absurd (not_both (slice_get r.fronts.items cell) least.something.0 n least.something.1))
+    (λ z. let least = h.begins (none_there waits (omega arith)) in absurd (not_both (slice_get fs cell) least.something.0 n least.something.1))
     (cases_lt 0 (length waits))

@@ -1,5 +1,4 @@
+pub mod bodies
 pub mod Answer
 pub mod Greedy
-pub mod Rests
 pub mod Walk
-pub mod Worklist

@@ -31,17 +31,21 @@ pub record IsWait (s : Sequences) (fronts : List (Option Comm)) (wait : Wait) : 
 -- The walk ends at the cell that is waited for last: one that it has already visited, or one with nothing left.
 abbrev pub IsEnd : List (Option Comm) → List Wait → WalkEnd → Type 0
 IsEnd fronts waits (Again cell) =
-    IsSomeAnd (slice_get waits (length waits - 1)) (λ last. last.partner ≡ cell) × Contains (map (λ (w : Wait). w.cell) waits) cell
+    IsSomeAnd (slice_get waits (length waits - 1)) (λ last. last.partner ≡ cell)
+    × Contains (map (λ (w : Wait). w.cell) waits) cell
 IsEnd fronts waits (NothingLeft cell) =
     IsSomeAnd (slice_get waits (length waits - 1)) (λ last. last.partner ≡ cell) × (slice_get fronts cell ≡ Some None)
 
--- The walk begins at the least cell with something left, goes on at the cell that is waited for, visits no cell twice, and ends
--- at the first cell that it has visited or that has nothing left.
-pub record IsWalk (s : Sequences) (residue : Residue) (walk : WaitWalk) : Type 0 where
-  pub begins : IsSomeAnd (slice_get walk.waits.items 0) (λ first. IsLeastLeft residue.fronts.items first.cell)
-  pub waits : All (IsWait s residue.fronts.items) walk.waits.items
-  pub goes_on : (k : ℕ) (wait next : Wait) → slice_get walk.waits.items k ≡ Some wait → slice_get walk.waits.items (suc k) ≡ Some next
+-- A walk of these waits, with this end: it begins at the least cell with something left, goes on at the cell that is
+-- waited for, visits no cell twice, and ends at the first cell that it has visited or that has nothing left.
+pub record IsWalkOver (s : Sequences) (fronts : List (Option Comm)) (waits : List Wait) (end : WalkEnd) : Type 0 where
+  pub begins : IsSomeAnd (slice_get waits 0) (λ first. IsLeastLeft fronts first.cell)
+  pub are_waits : All (IsWait s fronts) waits
+  pub goes_on : (k : ℕ) (wait next : Wait) → slice_get waits k ≡ Some wait → slice_get waits (suc k) ≡ Some next
       → next.cell ≡ wait.partner
-  pub differ : (j k : ℕ) (a b : Wait) → slice_get walk.waits.items j ≡ Some a → slice_get walk.waits.items k ≡ Some b
-      → a.cell ≡ b.cell → j ≡ k
-  pub ends : IsEnd residue.fronts.items walk.waits.items walk.end
+  pub differ : (j k : ℕ) (a b : Wait) → slice_get waits j ≡ Some a → slice_get waits k ≡ Some b → a.cell ≡ b.cell → j ≡ k
+  pub ends : IsEnd fronts waits end
+
+-- The walk is one of the residue.
+abbrev pub IsWalk : Sequences → Residue → WaitWalk → Type 0
+IsWalk s residue walk = IsWalkOver s residue.fronts.items walk.waits.items walk.end

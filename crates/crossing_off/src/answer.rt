@@ -15,9 +15,9 @@ pub struct Residue {
 /// How crossing-off ends (`docs/model.md`, "Crossing-off").
 #[derive(Debug, Drop)]
 pub enum Crossed {
-    /// Nothing is left. The messages stand by their indices in the order in which they were crossed, each as often as
-    /// it has words. This is a crossing order.
-    Empty(Vec<u16>),
-    /// Something is left, and there is no crossing order of any kind.
+    /// Nothing is left. These are all writes and reads in the order in which they were crossed, which is an order for
+    /// the buffer.
+    Empty(Vec<Comm>),
+    /// Something is left, and there is no order for the buffer of any kind.
     Left(Residue),
 }

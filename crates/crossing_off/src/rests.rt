@@ -4,7 +4,7 @@ ghost use Rattle.std.specs.Prelude.{◌≡◌, ◌<◌, ◌≤◌, ◌^◌, leng
 use comm_sequence::{Comm, Cursor};
 use std::marker::Model;
 
-/// What is left of a cell's list: the first operation, and a cursor behind it.
+/// What is left of a cell's list: the first operation, and a cursor after it.
 #[derive(Drop)]
 pub(crate) struct Rest<'a> {
     front: Option<Comm>,
@@ -14,7 +14,7 @@ pub(crate) struct Rest<'a> {
 impl<'a> Model for Rest<'a> {
     ghost use Rattle.std.specs.Prelude.{List};
     ghost use Rattle.comm_sequence.specs.declared.comm.Comm.{Comm};
-    ghost use Rattle.crossing_off.specs.Rests.{with_front};
+    ghost use Rattle.crossing_off.specs.bodies.Rests.{with_front};
 
     ghost Value = { List Comm };
 

@@ -24,8 +24,8 @@ pub struct Wait {
     pub partner: u16,
 }
 
-/// Where a walk ends: at the cell that its last wait waits for, by the cell's index, which is below the number of cells
-/// in what `walk` gives.
+/// Where a walk ends: at the cell that its last wait waits for, by the cell's index, which is below the number of
+/// cells in what `walk` gives.
 #[derive(Clone, Copy, Debug, PartialEq, Eq)]
 pub enum WalkEnd {
     /// The walk has already visited this cell.
@@ -42,15 +42,15 @@ pub struct WaitWalk {
     pub end: WalkEnd,
 }
 
-/// Walks from the least cell with something left to the cell that it waits for, and on from there, up to the first cell
-/// that it has already visited or that has nothing left (`docs/model.md`, "The walk of a refusal").
+/// Walks from the least cell with something left to the cell that it waits for, and on from there, up to the first
+/// cell that it has already visited or that has nothing left (`docs/model.md`, "The walk of a refusal").
 ///
-/// The residue is that of these sequences, with something left in it. The only error is want of memory, which may come
-/// for any residue.
+/// The residue is that of these sequences for some buffer, with something left in it. The only error is want of
+/// memory, which may come for any residue.
 ///
 /// It visits each cell once at most, and its time is linear in the number of cells.
 pub fn walk(alloc: Global, seqs: &Seqs, residue: &Residue) -> Result<WaitWalk, Memory>
-    requires residue { IsResidue seqs.now residue.now }
+    requires residue { (buffer : ℕ) × IsResidue seqs.now buffer residue.now }
     requires left { 1 ≤ residue.now.left }
     ensures { IfOk result (IsWalk seqs.now residue.now) }
 {

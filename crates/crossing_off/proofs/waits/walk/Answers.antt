@@ -11,11 +11,11 @@ use Rattle.crossing_off.proofs.waits.walk.Goals as goal
 
 pub first_left-cell-requires-clause-cells : goal.first_left-cell-requires-clause-cells
 first_left-cell-requires-clause-cells c =
-    omega (arith, ap length c.deref.ensures.value, fronts_long c.args.seqs.now c.args.residue.now c.requires.residue, c.cells.ensures.kept.cells)
+    omega (arith, ap length c.deref.ensures.value, fronts_long c.args.seqs.now c.args.residue.now c.requires.residue.1, c.cells.ensures.kept.cells)
 
 pub first_left-cell-requires-clause-some : goal.first_left-cell-requires-clause-some
 first_left-cell-requires-clause-some c =
-    let some = something_left c.args.seqs.now c.args.residue.now c.requires.residue c.requires.left in
+    let some = something_left c.args.seqs.now c.args.residue.now c.requires.residue.1 c.requires.left in
     let P : List (Option Comm) → Type 0 = λ fronts. HasFront fronts some.0 some.1 in
     (some.0, some.1, subst P (sym c.deref.ensures.value) some.2)
 
@@ -38,16 +38,16 @@ loop-front-init c =
     let P : List (Option Comm) → Type 0 = λ fronts. IsLeastLeft fronts cell in
     let least = subst P c.deref.ensures.value c.first_left-cell.ensures in
     let inside = slice_get_within r.fronts.items cell (Some least.something.0) least.something.1 in
-    let W : List Wait → Type 0 = λ waits. IsWalking s r waits visited cell in
+    let W : List Wait → Type 0 = λ waits. IsWalking s r.fronts.items waits visited cell in
     subst W (sym c.new-waits.ensures.items)
-    (walking_start s r visited cell c.cells.ensures.kept least (omega (arith, inside, fronts_long s r c.requires.residue))
+    (walking_start s r.fronts.items visited cell c.cells.ensures.kept least (omega (arith, inside, fronts_long s r c.requires.residue.1))
     (omega (arith, ap length is, length-replicate n false, c.from.ensures, c.cells.ensures.cells))
     (λ i. ap (λ xs. get_or xs i false) is ∙ all_false n i))
 
 pub index-requires-in-loop-front : goal.index-requires-in-loop-front
 index-requires-in-loop-front c =
     let r = c.args.residue.now in
-    omega (arith, c.from-in-loop-front-2.ensures, c.loop-front.invariant.inside, fronts_long c.args.seqs.now r c.requires.residue, r.fronts.ok.0)
+    omega (arith, c.from-in-loop-front-2.ensures, c.loop-front.invariant.inside, fronts_long c.args.seqs.now r c.requires.residue.1, r.fronts.ok.0)
 
 -- the value that was read at the cell
 read : (fronts : List (Option Comm)) (k cell : ℕ) (o : Option Comm) → k ≡ cell → cell < length fronts → o ≡ get_or fronts k o → slice_get fronts cell ≡ Some o
@@ -70,9 +70,9 @@ returns-in_default c =
     let waits = c.loop-front.waits in
     let cell = c.loop-front.cell in
     let o = c.index-in-loop-front.result.now in
-    let at = read r.fronts.items c.from-in-loop-front-2.result cell o c.from-in-loop-front-2.ensures (omega (arith, h.inside, fronts_long s r c.requires.residue)) c.index-in-loop-front.ensures in
-    let end = end_nothing s r waits.items c.loop-front.visited.items cell h (at ∙ ap Some (none_from o c.in_default.not-Some)) in
-    walked s r waits.items c.loop-front.visited.items cell (record { waits = waits; end = NothingLeft cell }) h end.0 refl end.1
+    let at = read r.fronts.items c.from-in-loop-front-2.result cell o c.from-in-loop-front-2.ensures (omega (arith, h.inside, fronts_long s r c.requires.residue.1)) c.index-in-loop-front.ensures in
+    let end = end_nothing s r.fronts.items waits.items c.loop-front.visited.items cell h (at ∙ ap Some (none_from o c.in_default.not-Some)) in
+    walked s r.fronts.items waits.items c.loop-front.visited.items cell (NothingLeft cell) h end.0 end.1
 
 pub partner_of-partner-requires : goal.partner_of-partner-requires
 partner_of-partner-requires c =
@@ -81,8 +81,8 @@ partner_of-partner-requires c =
     let h = c.loop-front.invariant in
     let cell = c.loop-front.cell in
     let o = c.index-in-loop-front.result.now in
-    let at = read r.fronts.items c.from-in-loop-front-2.result cell o c.from-in-loop-front-2.ensures (omega (arith, h.inside, fronts_long s r c.requires.residue)) c.index-in-loop-front.ensures in
-    on_known s r cell c.in-Some.front h.sound c.requires.residue h.inside (get_or_from_slice_get r.fronts.items cell o None at ∙ c.in-Some.is)
+    let at = read r.fronts.items c.from-in-loop-front-2.result cell o c.from-in-loop-front-2.ensures (omega (arith, h.inside, fronts_long s r c.requires.residue.1)) c.index-in-loop-front.ensures in
+    on_known s r cell c.in-Some.front h.sound c.requires.residue.1 h.inside (get_or_from_slice_get r.fronts.items cell o None at ∙ c.in-Some.is)
 
 pub loop-front-preserved : goal.loop-front-preserved
 loop-front-preserved c =
@@ -94,10 +94,10 @@ loop-front-preserved c =
     let cell = c.loop-front.cell in
     let partner = c.partner_of-partner.result in
     let o = c.index-in-loop-front.result.now in
-    let at = read r.fronts.items c.from-in-loop-front-2.result cell o c.from-in-loop-front-2.ensures (omega (arith, h.inside, fronts_long s r c.requires.residue)) c.index-in-loop-front.ensures in
+    let at = read r.fronts.items c.from-in-loop-front-2.result cell o c.from-in-loop-front-2.ensures (omega (arith, h.inside, fronts_long s r c.requires.residue.1)) c.index-in-loop-front.ensures in
     let fresh = read_bool visited c.from-in-loop-front.result cell c.index.result.now c.from-in-loop-front.ensures (omega (arith, h.inside, h.long)) c.index.ensures ∙ c.loop-front-test.true in
-    let more = walking_more s r waits visited cell c.in-Some.front partner h (at ∙ ap Some c.in-Some.is) c.partner_of-partner.ensures fresh in
-    let W : List Wait → ℕ → Type 0 = λ ws k. IsWalking s r ws (set visited k true) partner in
+    let more = walking_more s r.fronts.items waits visited cell c.in-Some.front partner h (at ∙ ap Some c.in-Some.is) c.partner_of-partner.ensures fresh in
+    let W : List Wait → ℕ → Type 0 = λ ws k. IsWalking s r.fronts.items ws (set visited k true) partner in
     let Waits : List Wait → Type 0 = λ ws. W ws c.from-in-loop-front-3.result in
     let Place : ℕ → Type 0 = λ k. W (waits ++ record { cell = cell; front = c.in-Some.front; partner = partner } ∷ []) k in
     subst Waits (sym c.in_ok-push.ensures.items) (subst Place (sym c.from-in-loop-front-3.ensures) more)
@@ -111,5 +111,5 @@ returns c =
     let visited = c.loop-front.visited.items in
     let cell = c.loop-front.cell in
     let seen = read_bool visited c.from-in-loop-front.result cell c.index.result.now c.from-in-loop-front.ensures (omega (arith, h.inside, h.long)) c.index.ensures ∙ c.loop-front-test.false in
-    let end = end_again s r waits.items visited cell h seen in
-    walked s r waits.items visited cell (record { waits = waits; end = Again cell }) h end.0 refl end.1
+    let end = end_again s r.fronts.items waits.items visited cell h seen in
+    walked s r.fronts.items waits.items visited cell (Again cell) h end.0 end.1

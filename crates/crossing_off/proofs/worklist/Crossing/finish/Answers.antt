@@ -8,14 +8,14 @@ use Rattle.crossing_off.proofs.worklist.Crossing.finish.Goals as goal
 
 pub count-left-requires : goal.count-left-requires
 count-left-requires c =
-    let few = left_few c.args.seqs.now c.args.self c.requires.under_way in
+    let few = left_few c.args.seqs.now c.args.buffer c.args.self c.requires.under_way in
     let seen = c.loop-rest.invariant.seen in
     let here = ap (λ xs. c.loop-rest.yielded ++ xs) (sym c.in-Some.ensures.steps.0) ∙ seen in
     omega (arith, few, one_of c.loop-rest.yielded c.next.new.self.rest.items c.args.self.rests.items c.in-Some.rest here)
 
 pub overflow_add-left : goal.overflow_add-left
 overflow_add-left c =
-    let few = left_few c.args.seqs.now c.args.self c.requires.under_way in
+    let few = left_few c.args.seqs.now c.args.buffer c.args.self c.requires.under_way in
     let seen = c.loop-rest.invariant.seen in
     let here = ap (λ xs. c.loop-rest.yielded ++ xs) (sym c.in-Some.ensures.steps.0) ∙ seen in
     omega (arith, few, one_of c.loop-rest.yielded c.next.new.self.rest.items c.args.self.rests.items c.in-Some.rest here)
@@ -31,7 +31,7 @@ returns-then-left-eq0 c =
     let long : c.into_iter-rest-iterator.result.rest.len ≡ length rests.items = omega (arith, gives.1, rests.ok.0) in
     let all = YieldsList-end (YieldsList-from_vec {s = c.into_iter-rest-iterator.result} rests.items gives.0 long) c.loop-rest.yielded c.loop-rest.rest-iterator c.loop-rest.yielded_by c.next.result c.next.new.self c.in-None.is c.next.ensures.steps in
     let seen = all_seen c.loop-rest.yielded rests.items all.0 in
-    answer_empty c.args.seqs.now c.args.self c.requires.under_way c.requires.stuck
+    answer_empty c.args.seqs.now c.args.buffer c.args.self c.requires.under_way c.requires.stuck
     (ap (sum_by length) (sym seen) ∙ sym c.loop-rest.invariant.left ∙ c.if-left-eq0.true)
 
 pub returns : goal.returns
@@ -41,6 +41,6 @@ returns c =
     let long : c.into_iter-rest-iterator.result.rest.len ≡ length rests.items = omega (arith, gives.1, rests.ok.0) in
     let all = YieldsList-end (YieldsList-from_vec {s = c.into_iter-rest-iterator.result} rests.items gives.0 long) c.loop-rest.yielded c.loop-rest.rest-iterator c.loop-rest.yielded_by c.next.result c.next.new.self c.in-None.is c.next.ensures.steps in
     let seen = all_seen c.loop-rest.yielded rests.items all.0 in
-    answer_left c.args.seqs.now c.args.self (record { left = c.loop-rest.left; fronts = c.loop-rest.fronts }) c.requires.under_way c.requires.stuck
+    answer_left c.args.seqs.now c.args.buffer c.args.self (record { left = c.loop-rest.left; fronts = c.loop-rest.fronts }) c.requires.under_way c.requires.stuck
     (c.loop-rest.invariant.left ∙ ap (sum_by length) seen) c.if-left-eq0.false
     (c.loop-rest.invariant.fronts ∙ ap (map (λ (r : List Comm). slice_get r 0)) seen)

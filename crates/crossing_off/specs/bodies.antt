@@ -1,0 +1,4 @@
+-- Words of bodies and proofs. No public contract speaks of them.
+pub mod Rests
+pub mod Waiting
+pub mod Worklist
