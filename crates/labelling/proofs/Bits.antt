@@ -4,7 +4,7 @@ use Rattle.std.specs.Int.{bit_at}
 use Rattle.std.proofs.lemmas.Bool.{cases_eq, eq-eqb, ne_eqb}
 use Rattle.std.proofs.lemmas.List.{get_or-set_same, get_or-set_other, get_or_past}
 use Rattle.std.proofs.lemmas.Nat.Bits.{shr_and_one, bit_at_set_same, bit_at_set_other, bit_at_or, bit_at-zero, bit_at-lt}
-use Rattle.labelling.specs.Sets.{has}
+use Rattle.labelling.specs.bodies.Sets.{has}
 
 -- the bit that is read
 pub read : (words : List ℕ) (word message : ℕ) → word ≡ message / 64

@@ -2,8 +2,8 @@
 use Rattle.std.proofs.Common.{◌≡◌, ℕ, ◌+◌, ◌<◌, ◌↔◌, Bool, ◌&&◌, ◌||◌, sym, ◌∙◌, subst, inl, inr, ◌⊎◌, ⊎_elim, arith}
 use Rattle.std.specs.Bool.{IsTrue}
 use Rattle.std.proofs.lemmas.Bool.{cases_lt, or_cases, or_left, or_right, and_parts, and_from}
-use Rattle.labelling.specs.Sets.{Through}
-use Rattle.labelling.specs.Sets.Through.{Near, Joined}
+use Rattle.labelling.specs.bodies.Sets.{Through}
+use Rattle.labelling.specs.bodies.Sets.Through.{Near, Joined}
 
 -- with no message between, a chain has one step
 one_step : (near : ℕ → ℕ → Bool) (a b : ℕ) → Through near 0 a b → IsTrue (near a b)

@@ -12,8 +12,8 @@ use Rattle.comm_sequence.specs.Labels.{message_at, Neighbours, Must, IsTable}
 use Rattle.comm_sequence.specs.Labels.Must.{Alone, Before}
 use Rattle.comm_sequence.specs.Sequences.{message_of, Sequences, IsSequences}
 use Rattle.comm_sequence.specs.declared.comm.Comm.{Comm}
-use Rattle.labelling.specs.Sets.{stand_after, stand_next, Through}
-use Rattle.labelling.specs.Sets.Through.{Near, Joined}
+use Rattle.labelling.specs.bodies.Sets.{stand_after, stand_next, Through}
+use Rattle.labelling.specs.bodies.Sets.Through.{Near, Joined}
 
 -- In this list the messages stand next to each other, in this order.
 record StandNext (list : List Comm) (a b : ℕ) : Type 0 where
@@ -101,7 +101,7 @@ pub must_join : (lists : List (List Comm)) (a b c : ℕ) → Must lists a b → 
 must_join lists _ _ c (Alone a) k = k
 must_join lists _ _ c (Before a b d n h) k = Before a b c n (must_join lists b d c h k)
 
--- an operation on a message, if there is one, is on one of so many
+-- an operation on a message, if there is one, is on one below a number
 below_if : (o : Option Comm) (m count : ℕ) → ((x : Comm) → o ≡ Some x → message_of x < count) → option_map message_of o ≡ Some m → m < count
 below_if None m count h e = absurd (none-some m e)
 below_if (Some x) m count h e = let lt = h x refl in let same : message_of x ≡ m = same_Some (message_of x) m e in omega arith

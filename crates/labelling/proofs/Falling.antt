@@ -13,7 +13,8 @@ use Rattle.comm_sequence.specs.declared.comm.Comm.{Comm}
 use Rattle.labelling.specs.Falls.{FallsAt, IsFall, NeverFalls, NoFallBefore}
 use Rattle.labelling.specs.declared.falls.Fall.{Fall}
 
--- The list is passed up to this place without a fall; the message before the place and what is left from it on are these.
+-- The list is passed up to this place without a fall; the message before the place and what is left from it on are
+-- these.
 pub record IsPassed (list : List Comm) (labels : List ℕ) (at before : ℕ) (left : List Comm) : Type 0 where
   pub place : ℕ
   pub next : at ≡ suc place
@@ -34,7 +35,7 @@ nothing_at [] at h = refl
 nothing_at (y ∷ ys) zero h = cc
 nothing_at (y ∷ ys) (suc at) h = nothing_at ys at h
 
--- nothing stands behind a place where nothing is left
+-- nothing stands after a place where nothing is left
 nothing_past : (list : List Comm) (at k : ℕ) → drop at list ≡ [] → at ≤ k → slice_get list k ≡ None
 nothing_past [] at k h le = refl
 nothing_past (y ∷ ys) zero k h le = cc
@@ -60,7 +61,7 @@ passed_first list x left labels e =
       none = λ at before after lt f. let n = f.next in omega arith;
     })
 
--- the message of the operation at the place is one of so many, if each of the list is
+-- the message of the operation at the place is below a number, if each of the list is
 pub known_next : (list : List Comm) (labels : List ℕ) (at before : ℕ) (left : List Comm) (x : Comm) (rest : List Comm) (n : ℕ)
     → IsPassed list labels at before left → left ≡ x ∷ rest → All (λ comm. message_of comm < n) list → message_of x < n
 known_next list labels at before left x rest n h e all =

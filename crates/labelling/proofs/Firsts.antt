@@ -10,8 +10,8 @@ use Rattle.comm_sequence.specs.Labels.{IsTable, Key, key, is_below, same_key, di
 use Rattle.comm_sequence.specs.declared.comm.Comm.{Comm}
 use Rattle.labelling.proofs.Keys.{same_from_test, test_from_same, same_keys, least_below, least_both}
 use Rattle.labelling.proofs.Ranges.{any_at, any_passes, filter_more, filter_same, filter_twice, map_same, map_filter_same, map_twice, count_by_map}
-use Rattle.labelling.specs.Ranks.{key_of, no_key, AreKeys}
-use Rattle.labelling.specs.Sets.{is_before}
+use Rattle.labelling.specs.bodies.Ranks.{key_of, no_key, AreKeys}
+use Rattle.labelling.specs.bodies.Sets.{is_before}
 use Rattle.labelling.specs.declared.ranks.MessageKey.{MessageKey}
 use Rattle.labelling.specs.declared.sets.MessageSet.{MessageSet}
 

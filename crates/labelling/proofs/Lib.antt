@@ -7,3 +7,4 @@ pub mod Keys
 pub mod Proposals
 pub mod Ranges
 pub mod Tables
+pub mod SomeLabels

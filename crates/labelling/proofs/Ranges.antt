@@ -132,7 +132,7 @@ filter_same p q a (suc n) h =
     ap (λ b. cond b (a ∷ filter p (range_with_len (a + 1) n)) (filter p (range_with_len (a + 1) n))) (h a (omega arith) (omega arith))
     ∙ ap (λ ys. cond (q a) (a ∷ ys) ys) rest
 
--- what passes two tests, one before a function and one behind it
+-- what passes two tests, one before a function and one after it
 filter_twice_at : {X : Type 0} (f : ℕ → X) (g : X → Bool) (x : ℕ) (ys : List ℕ) (zs : List ℕ) (b : Bool)
     → filter g (map f ys) ≡ map f zs
     → filter g (map f (cond b (x ∷ ys) ys)) ≡ map f (cond (b && g (f x)) (x ∷ zs) zs)

@@ -8,9 +8,9 @@ use Rattle.comm_sequence.specs.Sequences.{message_of}
 use Rattle.comm_sequence.specs.declared.comm.Comm.{Comm}
 use Rattle.labelling.specs.declared.sets.MessageSet.{MessageSet}
 use Rattle.labelling.proofs.Bits.{none_in_no_words, or_false}
-use Rattle.labelling.specs.Sets.{has, is_before, no_messages, stand_after, stand_next}
+use Rattle.labelling.specs.bodies.Sets.{has, is_before, no_messages, stand_after, stand_next}
 
--- the message of the first operation is one of so many, if that of each is
+-- the message of the first operation is below a number, if that of each is
 pub first_known : (list : List Comm) (x : Comm) (rest : List Comm) (n : ℕ) → list ≡ x ∷ rest → All (λ comm. message_of comm < n) list
     → message_of x < n
 first_known list x rest n e all =

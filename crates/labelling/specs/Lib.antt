@@ -1,3 +1,2 @@
+pub mod bodies
 pub mod Falls
-pub mod Ranks
-pub mod Sets

@@ -1,13 +1,14 @@
 //! Where labels fall.
 ghost use Rattle.std.specs.Prelude.{◌≡◌, ◌<◌, ◌≤◌, ◌↔◌, IsSome, IfSome, [], length, slice_index_or, All, MatchOption};
+ghost use Rattle.sys_base.specs.declared.limits.TheConstants.{STEPS};
 ghost use Rattle.comm_sequence.specs.Labels.{IsConsistent};
 ghost use Rattle.comm_sequence.specs.Sequences.{message_of};
 ghost use Rattle.labelling.specs.Falls.{FallsAt, IsFall, NeverFalls, NoFallBefore};
 
 use comm_sequence::{Cursor, Seqs};
 
-/// Where a label falls (`docs/model.md`, "Labels"): in the list of a cell, the label of an operation's message is below
-/// that of the message of the operation just before it.
+/// Where a label falls (`docs/model.md`, "Labels"): in the list of a cell, the label of an operation's message is
+/// below that of the message of the operation just before it.
 ///
 /// The ranges are those of a fall that `check` gives.
 #[derive(Clone, Copy, Debug, PartialEq, Eq)]
@@ -44,9 +45,10 @@ pub fn check(seqs: &Seqs, labels: &[u16]) -> Option<Fall>
 /// The first fall in the list of a cell.
 fn fall_in(mut cursor: Cursor<'_>, cell: u16, labels: &[u16]) -> Option<Fall>
     requires messages { All (λ comm. message_of comm < length labels.now) cursor }
-    requires few { length cursor ≤ 4194304 }
+    requires few { length cursor ≤ STEPS }
     ensures { MatchOption result (NeverFalls cursor.entry labels.now)
-        (λ fall. (fall.cell ≡ cell) × FallsAt cursor.entry labels.now fall.at fall.before fall.after × NoFallBefore cursor.entry labels.now fall.at) }
+        (λ fall. (fall.cell ≡ cell) × FallsAt cursor.entry labels.now fall.at fall.before fall.after
+        × NoFallBefore cursor.entry labels.now fall.at) }
 {
     let mut before = cursor.next()?.message();
     let mut at = 1;

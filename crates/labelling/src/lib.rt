@@ -9,5 +9,8 @@ mod ranks;
 mod sets;
 
 pub use falls::{Fall, check};
-pub use laws::{equal_where_neither_is_later, one_proposal, proposed_are_consistent};
+pub use laws::{
+    consistent_or_fall, equal_where_neither_is_later, one_proposal, proposed_are_consistent,
+    some_proposal,
+};
 pub use proposal::propose;

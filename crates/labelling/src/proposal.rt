@@ -14,9 +14,9 @@ use sys_base::Memory;
 /// `count` is the number of messages of `seqs`, at most 512. Each label is below `count`, so labels are 0 to 511. The
 /// only error is want of memory, which may come for any `seqs`.
 ///
-/// The key of a message has two numbers, of which the first counts more: how many messages must come no later than it,
-/// and the least of those that must come no later than it and no earlier. A message must come no later than itself, and
-/// than those to which a chain of neighbours in the lists leads from it.
+/// The key of a message has two numbers, and the first counts more: how many messages must come no later than
+/// it, and the least of those that must come no later than it and no earlier. A message must come no later than
+/// itself, and than those to which a chain of neighbours in the lists leads from it.
 ///
 /// Beyond one pass over the lists the time is cubic in the number of messages, but with 64 of them to a step: at most
 /// two million steps for 512 messages.

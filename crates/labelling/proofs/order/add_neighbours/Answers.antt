@@ -1,6 +1,6 @@
 use Rattle.std.proofs.Common.{ℕ, ◌<◌, length, sym, subst, arith}
 use Rattle.labelling.proofs.Tables.{first_known, rest_known, added_first, added_more}
-use Rattle.labelling.specs.Sets.{is_before}
+use Rattle.labelling.specs.bodies.Sets.{is_before}
 use Rattle.labelling.proofs.order.add_neighbours.Goals as goal
 
 pub loop-operation-init : goal.loop-operation-init

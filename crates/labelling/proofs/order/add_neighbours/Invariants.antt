@@ -1,6 +1,6 @@
 use Rattle.std.proofs.Common.{◌≡◌, ℕ, ◌<◌, ◌||◌, length, All}
 use Rattle.comm_sequence.specs.Sequences.{message_of}
-use Rattle.labelling.specs.Sets.{is_before, stand_after, stand_next}
+use Rattle.labelling.specs.bodies.Sets.{is_before, stand_after, stand_next}
 use Rattle.labelling.proofs.order.add_neighbours.Given as goal
 
 abbrev pub invariant-loop-operation : goal.invariant-loop-operation

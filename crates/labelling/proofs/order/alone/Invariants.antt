@@ -1,5 +1,5 @@
 use Rattle.std.proofs.Common.{◌≡◌, ℕ, ◌<◌, nat_eq, length}
-use Rattle.labelling.specs.Sets.{is_before}
+use Rattle.labelling.specs.bodies.Sets.{is_before}
 use Rattle.labelling.proofs.order.alone.Given as goal
 
 abbrev pub invariant-loop-message : goal.invariant-loop-message

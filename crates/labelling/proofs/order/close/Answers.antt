@@ -1,4 +1,4 @@
-use Rattle.labelling.specs.Sets.{is_before}
+use Rattle.labelling.specs.bodies.Sets.{is_before}
 use Rattle.labelling.proofs.Chains.{through_none, through_more}
 use Rattle.labelling.proofs.order.close.Goals as goal
 

@@ -1,5 +1,5 @@
 use Rattle.std.proofs.Common.{ℕ, ◌↔◌, IsTrue}
-use Rattle.labelling.specs.Sets.{is_before, Through}
+use Rattle.labelling.specs.bodies.Sets.{is_before, Through}
 use Rattle.labelling.proofs.order.close.Given as goal
 
 abbrev pub invariant-loop-between : goal.invariant-loop-between

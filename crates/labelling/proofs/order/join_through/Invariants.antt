@@ -1,5 +1,5 @@
 use Rattle.std.proofs.Common.{◌≡◌, ℕ, ◌<◌, ◌≤◌, ◌||◌, ◌&&◌, length}
-use Rattle.labelling.specs.Sets.{is_before}
+use Rattle.labelling.specs.bodies.Sets.{is_before}
 use Rattle.labelling.proofs.order.join_through.Given as goal
 
 abbrev pub invariant-loop-set : goal.invariant-loop-set

@@ -1,6 +1,6 @@
 use Rattle.std.proofs.Common.{◌≡◌, ℕ, ◌<◌, ◌||◌, nat_eq, length, take}
 use Rattle.std.specs.List.{list_any}
-use Rattle.labelling.specs.Sets.{is_before, stand_next}
+use Rattle.labelling.specs.bodies.Sets.{is_before, stand_next}
 use Rattle.labelling.proofs.order.neighbours.Given as goal
 
 abbrev pub invariant-loop-cell : goal.invariant-loop-cell

@@ -3,7 +3,7 @@ use Rattle.std.specs.Bool.{IsTrue}
 use Rattle.comm_sequence.specs.Labels.{IsTable}
 use Rattle.labelling.proofs.Closed.{below_from_sequences, closed_is_table}
 use Rattle.labelling.proofs.Tables.{written_back, none_before}
-use Rattle.labelling.specs.Sets.{is_before, Through}
+use Rattle.labelling.specs.bodies.Sets.{is_before, Through}
 use Rattle.labelling.specs.declared.sets.MessageSet.{MessageSet}
 use Rattle.labelling.proofs.order.order_of.Goals as goal
 

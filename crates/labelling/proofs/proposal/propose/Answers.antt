@@ -3,7 +3,7 @@ use Rattle.std.proofs.lemmas.Result.{IfOk-weaker}
 use Rattle.std.specs.Result.{IfOk}
 use Rattle.comm_sequence.specs.Labels.{IsProposal}
 use Rattle.comm_sequence.specs.declared.comm.Comm.{Comm}
-use Rattle.labelling.specs.Ranks.{AreKeys}
+use Rattle.labelling.specs.bodies.Ranks.{AreKeys}
 use Rattle.labelling.proofs.Firsts.{keys_by_sets}
 use Rattle.labelling.proofs.proposal.propose.Goals as goal
 

@@ -1,7 +1,7 @@
 use Rattle.std.proofs.Common.{◌≡◌, ◌≤◌, nat_eq, map, length, get_or}
 use Rattle.std.specs.List.{filter}
 use Rattle.cell_types.specs.Groups.{below}
-use Rattle.labelling.specs.Ranks.{no_key}
+use Rattle.labelling.specs.bodies.Ranks.{no_key}
 use Rattle.labelling.proofs.ranks.different_keys.Given as goal
 
 abbrev pub invariant-loop-message : goal.invariant-loop-message

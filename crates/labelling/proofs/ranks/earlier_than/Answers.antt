@@ -1,6 +1,6 @@
 use Rattle.std.proofs.Common.{ℕ, Bool, true, false, arith}
 use Rattle.labelling.proofs.Ranges.{counted_more}
-use Rattle.labelling.specs.Sets.{is_before}
+use Rattle.labelling.specs.bodies.Sets.{is_before}
 use Rattle.labelling.proofs.ranks.earlier_than.Goals as goal
 use Rattle.labelling.proofs.ranks.earlier_than.Goals.{then-comes_before, else-comes_before}
 

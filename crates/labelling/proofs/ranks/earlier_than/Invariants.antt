@@ -1,7 +1,7 @@
 use Rattle.std.proofs.Common.{◌≡◌, ◌≤◌}
 use Rattle.std.specs.List.{count_by}
 use Rattle.cell_types.specs.Groups.{below}
-use Rattle.labelling.specs.Sets.{is_before}
+use Rattle.labelling.specs.bodies.Sets.{is_before}
 use Rattle.labelling.proofs.ranks.earlier_than.Given as goal
 
 abbrev pub invariant-loop-other : goal.invariant-loop-other

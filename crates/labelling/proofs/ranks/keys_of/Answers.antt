@@ -3,8 +3,8 @@ use Rattle.std.proofs.lemmas.List.{map-append, length_push}
 use Rattle.std.proofs.lemmas.List.FromFn.{map-range_with_len_more}
 use Rattle.cell_types.specs.Groups.{below}
 use Rattle.comm_sequence.specs.Labels.{Key, key}
-use Rattle.labelling.specs.Ranks.{key_of}
-use Rattle.labelling.specs.Sets.{is_before}
+use Rattle.labelling.specs.bodies.Ranks.{key_of}
+use Rattle.labelling.specs.bodies.Sets.{is_before}
 use Rattle.labelling.proofs.ranks.keys_of.Goals as goal
 
 pub loop-message-preserved : goal.loop-message-preserved

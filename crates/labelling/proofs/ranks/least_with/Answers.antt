@@ -1,7 +1,7 @@
 use Rattle.std.proofs.Common.{◌&&◌, length, sym, arith}
 use Rattle.std.proofs.lemmas.Bool.{and_from}
 use Rattle.labelling.proofs.Ranges.{finds, finds_none}
-use Rattle.labelling.specs.Sets.{is_before}
+use Rattle.labelling.specs.bodies.Sets.{is_before}
 use Rattle.labelling.proofs.ranks.least_with.Goals as goal
 
 pub returns-then-comes_before-2 : goal.returns-then-comes_before-2

@@ -3,7 +3,7 @@ use Rattle.std.specs.List.{count_by}
 use Rattle.std.proofs.lemmas.List.{take_all}
 use Rattle.comm_sequence.specs.Labels.{is_below}
 use Rattle.labelling.proofs.Firsts.{ranked_more, ranks_are_proposed}
-use Rattle.labelling.specs.Ranks.{key_of}
+use Rattle.labelling.specs.bodies.Ranks.{key_of}
 use Rattle.labelling.proofs.ranks.ranks.Goals as goal
 
 pub loop-key-preserved : goal.loop-key-preserved

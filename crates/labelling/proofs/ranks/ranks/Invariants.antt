@@ -1,7 +1,7 @@
 use Rattle.std.proofs.Common.{◌≡◌, map, take}
 use Rattle.std.specs.List.{count_by}
 use Rattle.comm_sequence.specs.Labels.{is_below}
-use Rattle.labelling.specs.Ranks.{key_of}
+use Rattle.labelling.specs.bodies.Ranks.{key_of}
 use Rattle.labelling.proofs.ranks.ranks.Given as goal
 
 abbrev pub invariant-loop-key : goal.invariant-loop-key

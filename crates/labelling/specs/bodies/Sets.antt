@@ -27,7 +27,8 @@ abbrev pub stand_next : List Comm → ℕ → ℕ → Bool
 stand_next [] a b = false
 stand_next (x ∷ rest) a b = stand_after (message_of x) rest a b
 
--- A chain of neighbours leads from one message to another, and the messages between them in the chain are below this one.
+-- A chain of neighbours leads from one message to another, and the messages between them in the chain are below this
+-- one.
 pub data Through (near : ℕ → ℕ → Bool) (end : ℕ) : ℕ → ℕ → Type 0 where
   Near : (a b : ℕ) → IsTrue (near a b) → Through near end a b
   Joined : (a b c : ℕ) → b < end → Through near end a b → Through near end b c → Through near end a c

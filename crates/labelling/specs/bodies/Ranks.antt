@@ -13,7 +13,7 @@ key_of k = record { earlier = k.earlier; least = k.least }
 abbrev pub no_key : MessageKey
 no_key = record { earlier = 0; least = 0 }
 
--- These are the keys of so many messages in these lists.
+-- These are the keys of the messages below a count in these lists.
 pub record AreKeys (lists : List (List Comm)) (count : ℕ) (keys : List MessageKey) : Type 0 where
   pub must : ℕ → ℕ → Bool
   pub table : IsTable lists count must
