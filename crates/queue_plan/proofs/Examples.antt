@@ -1,7 +1,7 @@
 -- The definitions, computed on small programs.
 use Rattle.std.proofs.Common.{◌≡◌, ℕ, List, [], ◌∷◌, None, map, length, replicate, sum_by, refl}
 use Rattle.cell_types.specs.Code.{End, ProgramCode}
-use Rattle.cell_types.specs.Groups.{need}
+use Rattle.cell_types.specs.Groups.{need, routes_of}
 use Rattle.cell_types.specs.declared.program.Message.{Message}
 use Rattle.queue_plan.specs.Grouping.{all_groups, groups_at}
 use Rattle.queue_plan.specs.Lacks.{lacks}
@@ -10,7 +10,8 @@ use Rattle.queue_plan.specs.Lacks.{lacks}
 abbrev message : ℕ → ℕ → List ℕ → Message
 message name to route = record { name = name ∷ []; from = 0; to = to; route = route; label = None }
 
--- three cells in a row whose links have so many queues, with messages A and C to the second cell and B to the third one
+-- three cells in a row whose links have this number of queues, with messages A and C to the second cell and B to the third
+-- one
 abbrev program : ℕ → ProgramCode
 program queues =
     record {
@@ -38,7 +39,7 @@ unused_link = refl
 two_labels_count : sum_by length two_labels ≡ 3
 two_labels_count = refl
 
-two_labels_needs : map (need (program 1) (7 ∷ 2 ∷ 7 ∷ []) (1 ∷ 3 ∷ 1 ∷ [])) (1 ∷ 5 ∷ 7 ∷ []) ≡ 2 ∷ 1 ∷ 0 ∷ []
+two_labels_needs : map (need (routes_of (program 1)) (7 ∷ 2 ∷ 7 ∷ []) (1 ∷ 3 ∷ 1 ∷ [])) (1 ∷ 5 ∷ 7 ∷ []) ≡ 2 ∷ 1 ∷ 0 ∷ []
 two_labels_needs = refl
 
 -- One queue does not hold A and C, and two do.

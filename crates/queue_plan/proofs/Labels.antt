@@ -5,7 +5,7 @@ use Rattle.std.proofs.lemmas.Bool.{cases_eq, eq-eqb, ne_eqb}
 use Rattle.std.proofs.lemmas.List.Elements.{All-head, All-tail}
 use Rattle.std.specs.List.{cons_option}
 use Rattle.cell_types.specs.Groups.{below, greatest, is_one_of, labelled}
-use Rattle.queue_plan.specs.Grouping.{grouped}
+use Rattle.queue_plan.specs.bodies.ByLabel.{grouped}
 use Rattle.queue_plan.proofs.Ranges.{wider}
 
 -- whether there is an element

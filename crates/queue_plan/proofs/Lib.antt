@@ -1,6 +1,9 @@
 pub mod Counted
 pub mod Examples
 pub mod Firsts
+pub mod Fits
+pub mod Found
+pub mod GroupLaws
 pub mod Labels
 pub mod Lacking
 pub mod Noted

@@ -1,21 +1,20 @@
 -- Steps by which messages are noted at the links that they use.
-use Rattle.std.proofs.Common.{◌≡◌, ℕ, ◌+◌, ◌<◌, ◌≤◌, ◌&&◌, false, cond, List, [], ◌∷◌, ◌++◌, filter, length, get_or, take, slice_get, sym, ◌∙◌, ap, append-nil}
-use Rattle.std.specs.Option.{option_map_or}
+use Rattle.std.proofs.Common.{◌≡◌, ℕ, ◌+◌, ◌<◌, ◌≤◌, ◌&&◌, false, cond, List, [], ◌∷◌, ◌++◌, filter, length, map, get_or, take, slice_index_or, sym, ◌∙◌, ap, append-nil}
 use Rattle.std.proofs.lemmas.Bool.{le-ltb, lt-ltb}
 use Rattle.std.proofs.lemmas.List.Elements.{filter_more}
-use Rattle.std.proofs.lemmas.Option.{slice_get-get_or}
+use Rattle.std.proofs.lemmas.List.{get_or-map}
 use Rattle.cell_types.specs.Code.{ProgramCode}
 use Rattle.cell_types.specs.Groups.{is_one_of, route}
 use Rattle.cell_types.specs.declared.program.Message.{Message}
-use Rattle.queue_plan.specs.Grouping.{uses}
+use Rattle.queue_plan.specs.bodies.ByLabel.{uses}
 use Rattle.queue_plan.proofs.UserSteps.{one_if}
 
 -- the route of a message that is read
 pub route_read : (program : ProgramCode) (messages : List Message) (index : ℕ) (other : Message) → messages ≡ program.messages
     → index < length messages → route program index ≡ (get_or messages index other).route
 route_read program messages index other all within =
-    ap (λ found. option_map_or (λ (m : Message). m.route) found [])
-    (ap (λ ms. slice_get ms index) (sym all) ∙ slice_get-get_or messages index other within)
+    ap (λ ms. slice_index_or (map (λ (m : Message). m.route) ms) index []) (sym all)
+    ∙ get_or-map (λ (m : Message). m.route) messages index other [] within
 
 -- a message of length 0 uses no link
 pub unused : (program : ProgramCode) (lengths order : List ℕ) (i message link : ℕ) → i < length order → message ≡ get_or order i 0

@@ -25,7 +25,8 @@ wider f a zero m l h = sym (none_over f a m (λ k from. h k (omega arith)))
 wider f a (suc n) zero l h = absurd (omega arith)
 wider f a (suc n) (suc m) l h = ap (cons_option (f a)) (wider f (a + 1) n m (omega arith) (λ k from. h k (omega arith)))
 
--- two rules that give nothing below a number, of which one gives something at it and the other nothing, and that agree above it
+-- two rules that give nothing below a number, where one gives something at it and the other nothing, and that
+-- agree above it
 pub one_more : {A : Type 0} (f g : ℕ → Option A) (x : ℕ) (y : A) (a n : ℕ) → a ≤ x → x < a + n
     → ((k : ℕ) → k < x → f k ≡ None) → f x ≡ Some y → ((k : ℕ) → k ≤ x → g k ≡ None) → ((k : ℕ) → x < k → f k ≡ g k)
     → filter_map f (range_with_len a n) ≡ y ∷ filter_map g (range_with_len a n)

@@ -3,7 +3,7 @@ use Rattle.std.proofs.Common.{◌≡◌, ◌≢◌, ℕ, ◌+◌, ◌<◌, ◌�
 use Rattle.std.proofs.lemmas.List.Elements.{All-from_get_or, filter-append}
 use Rattle.std.specs.List.Sorted.{IsNonDecreasingBy}
 use Rattle.cell_types.specs.Groups.{greatest, labelled}
-use Rattle.queue_plan.specs.Grouping.{grouped}
+use Rattle.queue_plan.specs.bodies.ByLabel.{grouped}
 use Rattle.queue_plan.proofs.Labels.{all_labelled, group_of, grouped_is, label_below, none_labelled, with_label}
 use Rattle.queue_plan.proofs.Ranges.{one_more}
 

@@ -8,14 +8,16 @@ use Rattle.std.proofs.lemmas.List.Sums.{count_by-le-length, length-filter}
 use Rattle.std.specs.List.Sorted.{IsStrictlyIncreasing}
 use Rattle.sys_base.specs.Grid.{Extent, IsExtent, cell_count}
 use Rattle.cell_types.specs.Code.{ProgramCode}
-use Rattle.cell_types.specs.Groups.{below, greatest, groups, is_one_of, labelled, link_ids, rising, route, users}
+use Rattle.cell_types.specs.Groups.{below, greatest, groups, is_one_of, labelled, link_ids, rising, route, routes_of, users}
 use Rattle.cell_types.specs.Sound.{IsSound}
-use Rattle.queue_plan.specs.Grouping.{all_groups, AreGroups, grouped, IsGroup, IsGroups}
+use Rattle.cell_types.specs.declared.program.Message.{Message}
+use Rattle.queue_plan.specs.Grouping.{all_groups, AreGroups, IsGroup, IsGroups}
+use Rattle.queue_plan.specs.bodies.ByLabel.{grouped}
 use Rattle.queue_plan.proofs.Counted.{rising_few}
 use Rattle.queue_plan.proofs.Labels.{has_label, some}
 
 -- the numbers below one rise
-below_rises : (n : ℕ) → IsStrictlyIncreasing (below n)
+pub below_rises : (n : ℕ) → IsStrictlyIncreasing (below n)
 below_rises n = λ k l.
     let long = length-range_with_len 0 n in
     let here = get_or-range_with_len 0 n k 0 (omega (arith, long)) in
@@ -64,13 +66,14 @@ few_cells g is = mul-le-mul is.most_rows is.most_cols
 -- the groups of a program
 pub sound_groups : (program : ProgramCode) (labels lengths : List ℕ) → IsSound program → IsGroups (all_groups program labels lengths)
 sound_groups program labels lengths sound =
-    let long = length-map-range_with_len (groups program labels lengths) 0 (4 * cell_count program.grid) in
-    let n = length program.messages in
+    let long = length-map-range_with_len (groups (routes_of program) labels lengths) 0 (4 * cell_count program.grid) in
+    let n = length (routes_of program) in
+    let few : n ≤ 512 = omega (arith, length-map program.messages (λ (m : Message). m.route), sound.few) in
     record {
       few = omega (arith, long, few_cells program.grid sound.grid);
-      each = All-map AreGroups (groups program labels lengths) (link_ids program) (λ k d l.
+      each = All-map AreGroups (groups (routes_of program) labels lengths) (link_ids program) (λ k d l.
           let link = get_or (link_ids program) k d in
           let mine = λ (message : ℕ). nat_lt 0 (slice_index lengths message) && is_one_of (route program message) link in
-          are_groups labels (users program lengths link) (IsStrictlyIncreasing-filter mine (below n) (below_rises n))
-          (omega (arith, filtered_few mine (below n), length-range_with_len 0 n, sound.few)));
+          are_groups labels (users (routes_of program) lengths link) (IsStrictlyIncreasing-filter mine (below n) (below_rises n))
+          (omega (arith, filtered_few mine (below n), length-range_with_len 0 n, few)));
     }

@@ -6,7 +6,7 @@ use Rattle.std.proofs.lemmas.List.Elements.{All-head, All-map, All-same, All-tai
 use Rattle.std.proofs.lemmas.List.Sorted.{All-permutation}
 use Rattle.std.specs.List.Sorted.{IsNonDecreasingBy, IsStableByKey, ties}
 use Rattle.cell_types.specs.Groups.{below, labelled}
-use Rattle.queue_plan.specs.Grouping.{IsByLabel}
+use Rattle.queue_plan.specs.bodies.ByLabel.{IsByLabel}
 
 -- whether a label ties with that of a message
 abbrev tied : ℕ → ℕ × ℕ → Bool
@@ -16,13 +16,13 @@ tied label = ties (λ (x y : ℕ × ℕ). is_lt (nat_cmp x.0 y.0)) (label, 0)
 tied_is : (a b : ℕ) → nat_eq b a ≡ (not (is_lt (nat_cmp a b)) && not (is_lt (nat_cmp b a)))
 tied_is a b = grind (arith, nat_tests)
 
--- what is behind the labels that pass a test
+-- what stands after the labels that pass a test
 behind : (b : Bool) (p : ℕ × ℕ) (ms : List ℕ) (ps : List (ℕ × ℕ)) → ms ≡ map (λ (q : ℕ × ℕ). q.1) ps
     → cond b (p.1 ∷ ms) ms ≡ map (λ (q : ℕ × ℕ). q.1) (cond b (p ∷ ps) ps)
 behind true p ms ps e = ap (λ xs. p.1 ∷ xs) e
 behind false p ms ps e = e
 
--- the messages of a label, behind their labels
+-- the messages of a label, after their labels
 labelled_behind : (labels : List ℕ) (pairs : List (ℕ × ℕ)) (label : ℕ) → All (λ (p : ℕ × ℕ). p.0 ≡ slice_index labels p.1) pairs
     → labelled labels (map (λ (p : ℕ × ℕ). p.1) pairs) label ≡ map (λ (p : ℕ × ℕ). p.1) (filter (tied label) pairs)
 labelled_behind labels [] label h = refl
@@ -33,7 +33,7 @@ labelled_behind labels (p ∷ ps) label h =
     ∙ ap (λ b. cond b (p.1 ∷ rest) rest) (tied_is label p.0)
     ∙ behind (tied label p) p rest (filter (tied label) ps) (labelled_behind labels ps label (All-tail P p ps h))
 
--- messages behind what is put in front of each are themselves
+-- messages after what is put in front of each are themselves
 stripped : (labels messages : List ℕ) → map (λ (p : ℕ × ℕ). p.1) (map (λ m. (slice_index labels m, m)) messages) ≡ messages
 stripped labels [] = refl
 stripped labels (m ∷ ms) = ap (λ xs. m ∷ xs) (stripped labels ms)

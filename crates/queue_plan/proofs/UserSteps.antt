@@ -6,7 +6,7 @@ use Rattle.std.proofs.lemmas.List.Elements.{All-from_get_or}
 use Rattle.std.proofs.lemmas.List.Folds.{list_any_more, list_any_none}
 use Rattle.std.proofs.Math.Bool.{or-false}
 use Rattle.cell_types.specs.Groups.{is_one_of}
-use Rattle.routes.specs.Walks.{Differ}
+use Rattle.sys_base.specs.Paths.{Differ}
 
 -- the message, where the link is one of the route
 abbrev pub one_if : List ℕ → ℕ → ℕ → List ℕ

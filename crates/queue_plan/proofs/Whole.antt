@@ -1,12 +1,13 @@
 -- The groups of all links, as they are found.
 use Rattle.std.proofs.Common.{◌≡◌, ℕ, ◌+◌, ◌<◌, ◌≤◌, Bool, true, false, cond, List, [], ◌∷◌, map, filter, length, get_or, take, slice_index, nat_eq, All, sym, ◌∙◌, ap, subst, refl, arith}
 use Rattle.std.proofs.lemmas.Bool.{eq-eqb}
-use Rattle.std.proofs.lemmas.List.{take_all}
+use Rattle.std.proofs.lemmas.List.{length-map, take_all}
 use Rattle.std.proofs.lemmas.List.Elements.{All-cons, All-filter, All-from_get_or, All-head, All-map, All-same, All-tail}
 use Rattle.std.proofs.lemmas.List.FromFn.{get_or-range_with_len, length-range_with_len}
 use Rattle.cell_types.specs.Code.{ProgramCode}
-use Rattle.cell_types.specs.Groups.{below, greatest, labelled, link_ids}
-use Rattle.queue_plan.specs.Grouping.{all_groups, grouped, IsByLabel, uses}
+use Rattle.cell_types.specs.Groups.{below, greatest, labelled, link_ids, routes_of}
+use Rattle.queue_plan.specs.Grouping.{all_groups}
+use Rattle.queue_plan.specs.bodies.ByLabel.{grouped, IsByLabel, uses}
 use Rattle.queue_plan.proofs.Labels.{group_of, grouped_is, with_label}
 use Rattle.queue_plan.proofs.Ranges.{same_over}
 
@@ -54,9 +55,9 @@ pub groups_are : (program : ProgramCode) (labels lengths order : List ℕ) → I
     ≡ all_groups program labels lengths
 groups_are program labels lengths order by long =
     tables (λ link. filter (uses program lengths link) order) (grouped labels)
-    (λ link. grouped labels (filter (uses program lengths link) (below (length program.messages)))) (link_ids program)
+    (λ link. grouped labels (filter (uses program lengths link) (below (length (routes_of program))))) (link_ids program)
     (λ link. same_groups labels order (uses program lengths link) by
-    ∙ ap (λ n. grouped labels (filter (uses program lengths link) (below n))) long)
+    ∙ ap (λ n. grouped labels (filter (uses program lengths link) (below n))) (long ∙ sym (length-map program.messages _)))
 
 -- what holds of those of a list that have a label holds of each that has it
 kept_all : (P : ℕ → Type 0) (labels messages : List ℕ) → ((label : ℕ) → All P (labelled labels messages label)) → All P messages

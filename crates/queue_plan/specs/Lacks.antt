@@ -13,4 +13,5 @@ lack_of link queues group =
 -- what all links lack for all their groups, by link and then by label, where these are the queues of the links
 abbrev pub lacks : List (List (ℕ × List ℕ)) → List ℕ → List Lack
 lacks links queues =
-    flat_map (λ link. filter_map (lack_of link (slice_index queues link)) (groups_at links link)) (below (length links))
+    flat_map (λ link. filter_map (lack_of link (slice_index queues link)) (groups_at links link))
+    (below (length links))

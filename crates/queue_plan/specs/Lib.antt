@@ -1,2 +1,4 @@
+pub mod bodies
 pub mod Grouping
 pub mod Lacks
+pub mod Members

@@ -1,19 +1,21 @@
 //! How messages are grouped.
 ghost use Rattle.std.specs.Prelude.{◌≡◌, ◌≢◌, ◌<◌, ◌≤◌, length, map, take, slice_index, All, IfOk};
 ghost use Rattle.std.specs.List.Sorted.{IsNonDecreasingBy};
+ghost use Rattle.sys_base.specs.declared.limits.TheConstants.{MESSAGES};
 ghost use Rattle.cell_types.specs.Groups.{below};
 ghost use Rattle.cell_types.specs.Typed.{plain};
-ghost use Rattle.queue_plan.specs.Grouping.{all_groups, grouped, IsByLabel, IsGroups};
+ghost use Rattle.queue_plan.specs.Grouping.{all_groups, IsGroups};
+ghost use Rattle.queue_plan.specs.bodies.ByLabel.{grouped, IsByLabel};
 
 use crate::groups::Groups;
-use crate::labelled::Group;
+use crate::label_group::Group;
 use crate::users::users_of;
 use cell_types::Program;
 use std::alloc::{AllocError, Global};
-use sys_base::{Items, Memory};
+use sys_base::{Items, MESSAGES, Memory};
 
-/// The groups of each link of a program (`docs/model.md`, "Groups and queues"): the messages of one label and of length
-/// at least 1 whose routes use the link.
+/// The groups of each link of a program (`docs/model.md`, "Groups and queues"): the messages of one label and of
+/// length at least 1 whose routes use the link.
 ///
 /// `labels` and `lengths` have the label and the length of each message, at the message's index; a length is in words.
 /// The id of a link is below four times the number of the program's cells. The only error is want of memory, which may
@@ -33,7 +35,7 @@ pub fn group(
     ensures links { IfOk result (λ groups. length groups ≡ length program.now.queues) }
     ensures kept { IfOk result IsGroups }
 {
-    prove!(program.messages().len() <= 512);
+    prove!(program.messages().len() <= MESSAGES);
     let order = by_label(alloc, labels)?;
     let users = users_of(alloc, program, lengths, &order)?;
     let mut links = Items::new(alloc);
@@ -45,7 +47,7 @@ pub fn group(
 
 /// All messages, in rising order of label, and of index where labels are equal.
 fn by_label(alloc: Global, labels: &[u16]) -> Result<Vec<u16>, Memory>
-    requires { length labels.now ≤ 512 }
+    requires { length labels.now ≤ MESSAGES }
     ensures { IfOk result (λ order. IsByLabel labels.now order.items) }
 {
     let mut pairs = pairs_of(alloc, labels)?;
@@ -53,10 +55,11 @@ fn by_label(alloc: Global, labels: &[u16]) -> Result<Vec<u16>, Memory>
     Ok(messages_of(alloc, &pairs)?)
 }
 
-/// Each message behind its label.
+/// Each message after its label.
 fn pairs_of(alloc: Global, labels: &[u16]) -> Result<Vec<(u16, u16)>, AllocError>
-    requires { length labels.now ≤ 512 }
-    ensures { IfOk result (λ pairs. pairs.items ≡ map (λ message. (slice_index labels.now message, message)) (below (length labels.now))) }
+    requires { length labels.now ≤ MESSAGES }
+    ensures { IfOk result (λ pairs. pairs.items
+        ≡ map (λ message. (slice_index labels.now message, message)) (below (length labels.now))) }
 {
     let mut pairs = Vec::new(alloc);
     for (message, label) in labels.iter().enumerate() {
@@ -65,7 +68,7 @@ fn pairs_of(alloc: Global, labels: &[u16]) -> Result<Vec<(u16, u16)>, AllocError
     Ok(pairs)
 }
 
-/// The messages behind labels.
+/// The messages that stand after labels.
 fn messages_of(alloc: Global, pairs: &[(u16, u16)]) -> Result<Vec<u16>, AllocError>
     ensures { IfOk result (λ messages. messages.items ≡ map (λ pair. pair.1) pairs.now) }
 {

@@ -1,7 +1,8 @@
 ghost use Rattle.std.specs.Prelude.{◌≡◌, ◌≤◌, length, filter_map, slice_get, All};
+ghost use Rattle.sys_base.specs.declared.limits.TheConstants.{MESSAGES};
 ghost use Rattle.queue_plan.specs.Lacks.{lack_of};
 
-use crate::labelled::Group;
+use crate::label_group::Group;
 
 /// A group that has more members than its link has queues (`docs/model.md`, "Groups and queues").
 ///
@@ -20,7 +21,7 @@ pub struct Lack {
 
 /// What a link lacks for the first of its groups that has more members than the link has queues.
 pub(crate) fn first_lack(groups: &[Group], link: u16, queues: u8) -> Option<Lack>
-    requires { All (λ group. length group.1 ≤ 512) groups.now }
+    requires { All (λ group. length group.1 ≤ MESSAGES) groups.now }
     ensures { result ≡ slice_get (filter_map (lack_of link queues) groups.now) 0 }
 {
     for group in groups {

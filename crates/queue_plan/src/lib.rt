@@ -1,9 +1,10 @@
-//! The messages that share a link's queues: their groups by label, the queues that a link needs, and the first lack of them.
+//! The messages that share a link's queues: their groups by label, the queues that a link needs, and the first lack
+//! of them.
 #![tactic(auto)]
 
 mod grouping;
 mod groups;
-mod labelled;
+mod label_group;
 mod lack;
 mod laws;
 mod users;
@@ -11,4 +12,4 @@ mod users;
 pub use grouping::group;
 pub use groups::Groups;
 pub use lack::Lack;
-pub use laws::groups_by_link;
+pub use laws::{groups_by_link, groups_fit, groups_rise, users_are_grouped};

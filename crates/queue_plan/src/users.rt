@@ -2,8 +2,8 @@
 ghost use Rattle.std.specs.Prelude.{◌≡◌, ◌<◌, ◌++◌, [], ◌∷◌, if◌then◌else◌, length, map, filter, replicate, slice_index_or, All, EachIndex, IfOk, OnOk};
 ghost use Rattle.cell_types.specs.Groups.{is_one_of, link_ids};
 ghost use Rattle.cell_types.specs.Typed.{plain};
-ghost use Rattle.queue_plan.specs.Grouping.{uses};
-ghost use Rattle.routes.specs.Walks.{Differ};
+ghost use Rattle.queue_plan.specs.bodies.ByLabel.{uses};
+ghost use Rattle.sys_base.specs.Paths.{Differ};
 
 use cell_types::Program;
 use std::alloc::Global;
@@ -18,7 +18,8 @@ pub(crate) fn users_of(
 ) -> Result<Vec<Items<u16>>, Memory>
     requires lengths { length lengths.now ≡ length program.now.messages }
     requires order { All (λ message. message < length program.now.messages) order.now }
-    ensures { IfOk result (λ users. users.items ≡ map (λ link. filter (uses (plain program.now) lengths.now link) order.now) (link_ids (plain program.now))) }
+    ensures { IfOk result (λ users. users.items
+        ≡ map (λ link. filter (uses (plain program.now) lengths.now link) order.now) (link_ids (plain program.now))) }
 {
     let mut users = no_users(alloc, program.queues().len())?;
     let messages = program.messages();
@@ -47,7 +48,8 @@ fn no_users(alloc: Global, links: usize) -> Result<Vec<Items<u16>>, Memory>
 fn add_user(users: &mut [Items<u16>], route: &[u16], message: u16) -> Result<(), Memory>
     requires links { All (λ link. link < length users.old) route.now }
     requires differ { Differ route.now }
-    ensures { OnOk result (EachIndex users.old (λ link. slice_index_or users.new link [] ≡ slice_index_or users.old link [] ++ (if is_one_of route.now link then message ∷ [] else []))) }
+    ensures { OnOk result (EachIndex users.old (λ link. slice_index_or users.new link []
+        ≡ slice_index_or users.old link [] ++ (if is_one_of route.now link then message ∷ [] else []))) }
 {
     for link in route {
         let messages = &mut users[usize::from(*link)];

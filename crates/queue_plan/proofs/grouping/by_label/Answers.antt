@@ -1,6 +1,6 @@
 use Rattle.std.proofs.Common.{rules, ℕ, map, ap, sym, subst, ◌∙◌}
 use Rattle.std.proofs.lemmas.List.Sorted.{answers_always, IsNonDecreasingBy-from_sort_by_key}
-use Rattle.queue_plan.specs.Grouping.{IsByLabel}
+use Rattle.queue_plan.specs.bodies.ByLabel.{IsByLabel}
 use Rattle.queue_plan.proofs.Stable.{sorted_by_label}
 use Rattle.queue_plan.proofs.grouping.by_label.Goals as goal
 

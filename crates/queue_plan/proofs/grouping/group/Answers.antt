@@ -4,7 +4,7 @@ use Rattle.std.proofs.lemmas.List.FromFn.{length-map-range_with_len}
 use Rattle.std.proofs.lemmas.List.Kept.{IsNonDecreasingBy-filter}
 use Rattle.std.specs.List.Sorted.{IsNonDecreasingBy}
 use Rattle.sys_base.specs.Grid.{cell_count}
-use Rattle.cell_types.specs.Groups.{groups}
+use Rattle.cell_types.specs.Groups.{groups, routes_of}
 use Rattle.cell_types.specs.Typed.{plain}
 use Rattle.queue_plan.specs.Grouping.{IsGroups}
 use Rattle.queue_plan.proofs.SoundGroups.{sound_groups}
@@ -71,5 +71,5 @@ returns-clause-links c =
     let p = plain c.args.program.now in
     let labels = c.args.labels.now in
     let lengths = c.args.lengths.now in
-    ap length (returns-clause-groups c) ∙ length-map-range_with_len (groups p labels lengths) 0 (4 * cell_count p.grid)
+    ap length (returns-clause-groups c) ∙ length-map-range_with_len (groups (routes_of p) labels lengths) 0 (4 * cell_count p.grid)
     ∙ sym c.messages.ensures.sound.links

@@ -1,5 +1,5 @@
 use Rattle.std.proofs.Common.{◌≡◌, map, take}
-use Rattle.queue_plan.specs.Grouping.{grouped}
+use Rattle.queue_plan.specs.bodies.ByLabel.{grouped}
 use Rattle.queue_plan.proofs.grouping.group.Given as goal
 
 abbrev pub invariant-loop-messages : goal.invariant-loop-messages

@@ -1,6 +1,6 @@
 use Rattle.std.proofs.Common.{◌≡◌, ◌++◌, ◌<◌, length, All, slice_index}
 use Rattle.std.specs.List.Sorted.{IsNonDecreasingBy}
-use Rattle.queue_plan.specs.Grouping.{grouped}
+use Rattle.queue_plan.specs.bodies.ByLabel.{grouped}
 use Rattle.queue_plan.proofs.grouping.groups_of.Given as goal
 
 abbrev pub invariant-loop-first : goal.invariant-loop-first

@@ -4,7 +4,7 @@ use Rattle.std.proofs.lemmas.List.FromFn.{fill_by_all}
 use Rattle.sys_base.specs.Grid.{cell_count}
 use Rattle.cell_types.specs.Groups.{route}
 use Rattle.cell_types.specs.Typed.{plain}
-use Rattle.queue_plan.specs.Grouping.{uses}
+use Rattle.queue_plan.specs.bodies.ByLabel.{uses}
 use Rattle.queue_plan.proofs.Noted.{route_read, unused, used}
 use Rattle.queue_plan.proofs.UserSteps.{one_if}
 use Rattle.queue_plan.proofs.users.users_of.Goals as goal

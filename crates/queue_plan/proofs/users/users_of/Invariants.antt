@@ -1,7 +1,7 @@
 use Rattle.std.proofs.Common.{◌≡◌, ℕ, ◌*◌, ◌<◌, [], length, filter, take, slice_index_or}
 use Rattle.sys_base.specs.Grid.{cell_count}
 use Rattle.cell_types.specs.Typed.{plain}
-use Rattle.queue_plan.specs.Grouping.{uses}
+use Rattle.queue_plan.specs.bodies.ByLabel.{uses}
 use Rattle.queue_plan.proofs.users.users_of.Given as goal
 
 abbrev pub invariant-loop-message : goal.invariant-loop-message

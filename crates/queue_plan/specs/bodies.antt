@@ -1,0 +1,2 @@
+-- Words of bodies and proofs. No public contract speaks of them.
+pub mod ByLabel
