@@ -1,0 +1,5 @@
+pub mod Rows
+pub mod After
+pub mod Reached
+pub mod Told
+pub mod Stepped

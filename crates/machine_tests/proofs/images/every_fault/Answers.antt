@@ -1,0 +1,8 @@
+use Rattle.std.proofs.Common.{[], ◌∷◌, refl}
+use Rattle.machine_tests.proofs.images.every_fault.Goals as goal
+
+pub returns-clause-shaped : goal.returns-clause-shaped
+returns-clause-shaped c =
+    rw c.in_ok-code.ensures
+    (c.checked_cells_are_shaped.ensures _
+    (0 ∷ 1 ∷ 2 ∷ 1 ∷ 0 ∷ 1 ∷ 2 ∷ 1 ∷ 0 ∷ 1 ∷ 1 ∷ 0 ∷ 1 ∷ 1 ∷ 2 ∷ 0 ∷ 1 ∷ 2 ∷ 1 ∷ 0 ∷ 1 ∷ 0 ∷ 1 ∷ 0 ∷ []) 40 refl)
