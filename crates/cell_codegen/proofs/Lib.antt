@@ -1,0 +1,12 @@
+pub mod Comms
+pub mod Depths
+pub mod Found
+pub mod Keeps
+pub mod Patch
+pub mod Plain
+pub mod Ranges
+pub mod Runs
+pub mod Sizes
+pub mod Small
+pub mod Steps
+pub mod Ways

@@ -1,0 +1,4 @@
+pub mod Bounds
+pub mod Emission
+pub mod Following
+pub mod Shapes
