@@ -1,0 +1,7 @@
+pub mod Holding
+pub mod Meaning
+pub mod Orders
+pub mod Regular
+pub mod Runs
+pub mod States
+pub mod Steps
