@@ -1,6 +1,16 @@
-use sys_base::{Items, Limit, Name};
+use crate::walk::WalkLine;
+use sys_base::{CellName, Items, Limit, LinkName, Name};
 
-/// Why a source is refused. Each `line` is that of the token, the declaration or the statement at fault, from 1.
+/// What stands twice in a source.
+#[derive(Debug, Drop)]
+pub enum Twice {
+    Link(LinkName),
+    Cell(CellName),
+    Named(Name),
+}
+
+/// Why a source is refused, printed as its line (`docs/refusals.md`). Each `line` is that of the token, the declaration
+/// or the statement at fault, from 1.
 #[derive(Debug, Drop)]
 pub enum Refusal {
     /// E01: a byte that begins no token and separates none, at this place in the file, from 0.
@@ -35,9 +45,9 @@ pub enum Refusal {
         limit: Limit,
         line: u32,
     },
-    /// E11: a second declaration of what is printed here, a link, a cell or a name.
+    /// E11: a second declaration of a link, a cell or a name.
     Twice {
-        what: Items<u8>,
+        what: Twice,
         line: u32,
     },
     /// E12: a cell or a link outside the grid.
@@ -66,7 +76,8 @@ pub enum Refusal {
         sends: bool,
         line: u32,
     },
-    /// E17: a name of the wrong kind; found is 0 for a message, 1 for a variable, 2 for an array, 3 for a counter.
+    /// E17: a name of the wrong kind; found is 0 for a message, 1 for a variable, 2 for an array, and
+    /// otherwise a counter.
     WrongKind {
         name: Name,
         found: u8,
@@ -82,16 +93,16 @@ pub enum Refusal {
         name: Name,
         line: u32,
     },
-    /// E20: a route that uses the printed link twice.
+    /// E20: a route that uses this link twice.
     RouteTwice {
         name: Name,
-        link: Items<u8>,
+        link: LinkName,
         line: u32,
     },
-    /// E30: there is no crossing order. So many operations are left, and the walk's lines show why.
+    /// E30: there is no crossing order. This number of operations is left, and the walk shows why.
     Crossing {
         left: u32,
-        walk: Items<Items<u8>>,
+        walk: Items<WalkLine>,
     },
     /// E40: the operation at this place in the list of a cell, from 0, is of `after`, whose label `second` is less than
     /// the label `first` of `before`, the message of the operation before it.
@@ -108,9 +119,9 @@ pub enum Refusal {
     SomeLabels {
         name: Name,
     },
-    /// E50: a group of messages with one label on the printed link needs more queues than the link has.
+    /// E50: a group of messages with one label on this link needs more queues than the link has.
     TooFew {
-        link: Items<u8>,
+        link: LinkName,
         label: u16,
         need: u16,
         has: u8,

@@ -1,6 +1,7 @@
 use Rattle.std.proofs.Common.{◌≡◌, ◌++◌, take}
-use Rattle.refusals.specs.Explanations.{lines_text}
+use Rattle.std.specs.Prelude.{string_bytes}
+use Rattle.refusals.specs.Explanations.{walk_lines}
 use Rattle.refusals.proofs.explanation.write_walk.Given as goal
 
 abbrev pub invariant-loop-line : goal.invariant-loop-line
-invariant-loop-line l = l.out.items ≡ l.fn.out.items ++ lines_text (take l.line-index l.walk)
+invariant-loop-line l = string_bytes l.out ≡ string_bytes l.fn.out ++ walk_lines (take l.line-index l.walk)
