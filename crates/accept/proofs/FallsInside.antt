@@ -15,7 +15,7 @@ use Rattle.comm_sequence.specs.Sequences.{Sequences, comms, sequences_of, messag
 use Rattle.comm_sequence.specs.declared.comm.Comm.{Comm}
 use Rattle.labelling.specs.Falls.{IsFall}
 use Rattle.labelling.specs.declared.falls.Fall.{Fall}
-use Rattle.accept.specs.Answers.{IsFallOf}
+use Rattle.accept.specs.bodies.Answers.{IsFallOf}
 use Rattle.accept.proofs.Waits.{all_at}
 
 -- The cell is one of those with lists, and the message is one of those with ends.

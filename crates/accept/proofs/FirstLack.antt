@@ -3,16 +3,18 @@ use Rattle.std.proofs.Common.{◌≡◌, ℕ, zero, suc, ◌+◌, ◌*◌, ◌<�
 use Rattle.std.proofs.lemmas.Bool.{cases_eq, eq-eqb, ne_eqb}
 use Rattle.std.proofs.lemmas.List.Elements.{All-filter, All-from_get_or, All-head, All-map, All-nil, All-tail}
 use Rattle.std.proofs.lemmas.List.FromFn.{get_or-map-range_with_len, get_or-range_with_len, length-map-range_with_len, length-range_with_len}
+use Rattle.std.proofs.lemmas.List.{length-map}
 use Rattle.std.proofs.lemmas.Option.{none-some, same_Some, slice_get_within}
 use Rattle.std.specs.List.{cons_option, range_with_len}
 use Rattle.std.specs.Option.{option_map, option_map_or}
 use Rattle.sys_base.specs.Grid.{cell_count}
 use Rattle.cell_types.specs.Code.{ProgramCode}
-use Rattle.cell_types.specs.Groups.{below, groups, is_one_of, labelled, lengths_of, rising, route, users}
+use Rattle.cell_types.specs.Groups.{below, groups, is_one_of, labelled, lengths_of, rising, route, routes_of, users}
+use Rattle.cell_types.specs.declared.program.Message.{Message}
 use Rattle.queue_plan.specs.Grouping.{all_groups, groups_at}
 use Rattle.queue_plan.specs.Lacks.{lack_of}
 use Rattle.queue_plan.specs.declared.lack.Lack.{Lack}
-use Rattle.accept.specs.Answers.{AreKnown, members_at}
+use Rattle.accept.specs.bodies.Answers.{AreKnown, members_at}
 use Rattle.accept.specs.Labelled.{lacks_of, members_of}
 
 -- whether a group has the label
@@ -181,31 +183,32 @@ module _ (members : ℕ → List ℕ) where
 module _ (p : ProgramCode) (labels : List ℕ) where
   -- the members of the groups at a link, by their labels
   abbrev by_label : ℕ → ℕ → List ℕ
-  by_label link label = labelled labels (users p (lengths_of p) link) label
+  by_label link label = labelled labels (users (routes_of p) (lengths_of p) link) label
 
   -- the groups at a link are those of the link
   at_link : (link : ℕ) → link < 4 * cell_count p.grid
-      → groups_at (all_groups p labels (lengths_of p)) link ≡ groups p labels (lengths_of p) link
+      → groups_at (all_groups p labels (lengths_of p)) link ≡ groups (routes_of p) labels (lengths_of p) link
   at_link link l =
-      get_or-map-range_with_len (groups p labels (lengths_of p)) 0 (4 * cell_count p.grid) link link [] l (omega arith)
+      get_or-map-range_with_len (groups (routes_of p) labels (lengths_of p)) 0 (4 * cell_count p.grid) link link [] l (omega arith)
 
   -- there are groups for each link of the grid
   pub count_links : length (all_groups p labels (lengths_of p)) ≡ 4 * cell_count p.grid
-  count_links = length-map-range_with_len (groups p labels (lengths_of p)) 0 (4 * cell_count p.grid)
+  count_links = length-map-range_with_len (groups (routes_of p) labels (lengths_of p)) 0 (4 * cell_count p.grid)
 
   -- the members of the groups of a link are messages of the program
   pub all_known : (link : ℕ) → link < 4 * cell_count p.grid
       → AreKnown (all_groups p labels (lengths_of p)) link (length p.messages)
   all_known link inside =
       let message = λ (m : ℕ). m < length p.messages in
-      let members : List ℕ = users p (lengths_of p) link in
+      let members : List ℕ = users (routes_of p) (lengths_of p) link in
       let kept : List ℕ = rising (map (slice_index labels) members) in
-      let count = length-range_with_len 0 (length p.messages) in
-      let all : All message (below (length p.messages)) =
-      All-from_get_or message (below (length p.messages)) 0
-      (λ i l. let at = get_or-range_with_len 0 (length p.messages) i 0 (omega arith) in omega arith) in
+      let n = length (routes_of p) in
+      let long : n ≡ length p.messages = length-map p.messages (λ (m : Message). m.route) in
+      let count = length-range_with_len 0 n in
+      let all : All message (below n) =
+      All-from_get_or message (below n) 0 (λ i l. let at = get_or-range_with_len 0 n i 0 (omega arith) in omega arith) in
       let known : All message members =
-      All-filter (λ m. nat_lt 0 (slice_index (lengths_of p) m) && is_one_of (route p m) link) message (below (length p.messages)) all in
+      All-filter (λ m. nat_lt 0 (slice_index (lengths_of p) m) && is_one_of (route p m) link) message (below n) all in
       subst (All (λ (g : ℕ × List ℕ). All message g.1)) (sym (at_link link inside))
       (All-map (λ (g : ℕ × List ℕ). All message g.1) (λ label. (label, by_label link label)) kept
       (λ k d l. All-filter (λ m. nat_eq (slice_index labels m) (slice_index_or kept k d)) message members known))
@@ -223,8 +226,8 @@ module _ (p : ProgramCode) (labels : List ℕ) where
       let found : (i : ℕ) × (i < 0 + length links) × (slice_get (lacking i) 0 ≡ Some lack) = in_lists lacking 0 (length links) lack is in
       let i : ℕ = found.0 in
       let inside : i < 4 * cell_count p.grid = omega (arith, count_links, found.1) in
-      let own : IsOwn (by_label i) i (groups p labels (lengths_of p) i) lack =
-      own_lack (by_label i) i (slice_index p.queues i) (rising (map (slice_index labels) (users p (lengths_of p) i))) lack
+      let own : IsOwn (by_label i) i (groups (routes_of p) labels (lengths_of p) i) lack =
+      own_lack (by_label i) i (slice_index p.queues i) (rising (map (slice_index labels) (users (routes_of p) (lengths_of p) i))) lack
       (subst (λ gs. slice_get (filter_map (lack_of i (slice_index p.queues i)) gs) 0 ≡ Some lack) (at_link i inside) found.2) in
       record {
         link = subst (λ k. k < 4 * cell_count p.grid) (sym own.link) inside;

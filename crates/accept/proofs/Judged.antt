@@ -1,6 +1,7 @@
 -- The first refusal of a program, and what there is of a program that has none.
 use Rattle.std.proofs.Common.{ℕ, ◌≡◌, ◌+◌, ◌<◌, ◌≤◌, false, List, [], ◌∷◌, Option, None, Some, inl, inr, is_none, is_some, length, map, sum_by, slice_get, refl, sym, ap, subst, ◌∙◌, arith}
 use Rattle.std.specs.Prelude.{not, find, option_map, slice_index_or, if◌then◌else◌}
+use Rattle.sys_base.specs.declared.limits.TheConstants.{STEPS}
 use Rattle.cell_types.specs.Code.{ProgramCode}
 use Rattle.cell_types.specs.Cost.{IsLimited, cells_cost}
 use Rattle.cell_types.specs.Groups.{bound, forwards, lengths_of}
@@ -8,6 +9,7 @@ use Rattle.cell_types.specs.declared.program.Message.{Message}
 use Rattle.comm_sequence.specs.Differing.{all_differing, IsFirst}
 use Rattle.comm_sequence.specs.Labels.{IsConsistent}
 use Rattle.comm_sequence.specs.Sequences.{sequences_of, message_of}
+use Rattle.comm_sequence.specs.declared.comm.Comm.{Comm}
 use Rattle.comm_sequence.specs.declared.error.CommError.{CommError}
 use Rattle.comm_sequence.specs.declared.error.CommError.TheVariants as C
 use Rattle.crossing_off.specs.Answer.{IsEmpty}
@@ -15,12 +17,12 @@ use Rattle.labelling.specs.Falls.{FallsAt}
 use Rattle.queue_plan.specs.Grouping.{all_groups}
 use Rattle.refusals.specs.declared.refusal.Refusal.{Refusal}
 use Rattle.refusals.specs.declared.refusal.Refusal.TheVariants as R
-use Rattle.accept.specs.Answers.{IsFound}
+use Rattle.accept.specs.bodies.Answers.{IsFound}
 use Rattle.accept.specs.Built.{IsJudged}
 use Rattle.accept.specs.FirstRefusal.{IsCostly, HasUnlikeArms, IsStalled, HasSomeLabels, HasFallingLabels, HasTooFewQueues, IsOverBound, label_trials, program_trials, IsFirstOf, PassesAll}
 use Rattle.accept.specs.Labelled.{AreLabels, has_label, first_unlabelled, lacks_of}
-use Rattle.accept.specs.Laws.{Laws}
-use Rattle.accept.specs.Reading.{unlike}
+use Rattle.accept.specs.bodies.Laws.{Laws}
+use Rattle.accept.specs.bodies.Reading.{unlike}
 use Rattle.accept.specs.declared.building.AcceptError.{AcceptError}
 use Rattle.accept.specs.declared.building.AcceptError.TheVariants as A
 use Rattle.accept.proofs.OneRefusal.{unlikeness, stalling, lacking, none_some, one_labelling}
@@ -36,7 +38,7 @@ found Given Wanted p (A.Refused r) on h = on r h
 found Given Wanted p A.Memory on h = tt
 
 -- a cost that is not above the limit
-pub within_limit : (cost : ℕ) (o : Option ℕ) → IsLimited cost o → is_none o ≡ false → cost ≤ 4194304
+pub within_limit : (cost : ℕ) (o : Option ℕ) → IsLimited cost o → is_none o ≡ false → cost ≤ STEPS
 within_limit cost None limited some = cc
 within_limit cost (Some steps) limited some = limited.1
 
@@ -58,12 +60,12 @@ module _ (laws : Laws) (p : ProgramCode) where
       sum ∙ ap (λ k. cells_cost p + forwards p + k) (ap (sum_by length) groups ∙ laws.groups p labels)
 
   -- the cells that cost too much come first
-  pub costly_first : 4194304 < cells_cost p → IsFirstOf program_trials p R.CellSteps
+  pub costly_first : STEPS < cells_cost p → IsFirstOf program_trials p R.CellSteps
   costly_first many = inl (many, refl)
 
-  module _ (few : cells_cost p ≤ 4194304) where
+  module _ (few : cells_cost p ≤ STEPS) where
     -- cells within the limit don't cost too much
-    not_costly : Never IsCostly p
+    pub not_costly : Never IsCostly p
     not_costly q (many, _) = absurd (omega (arith, few, many))
 
     -- arms that differ come next
@@ -73,7 +75,7 @@ module _ (laws : Laws) (p : ProgramCode) where
 
     module _ (alike : all_differing p ≡ []) where
       -- arms that are alike don't differ
-      not_unlike : Never HasUnlikeArms p
+      pub not_unlike : Never HasUnlikeArms p
       not_unlike q h =
           let (line, (cell, there), same) = unlikeness p q h in
           none_some (cell, line) (subst (λ ds. slice_get ds 0 ≡ Some (cell, line)) alike there)
@@ -82,8 +84,8 @@ module _ (laws : Laws) (p : ProgramCode) where
       pub stalled_first : (e : AcceptError) → IsFound IsStalled p e → IsFound (IsFirstOf program_trials) p e
       stalled_first e h = found IsStalled (IsFirstOf program_trials) p e (λ r k. inr (not_costly, inr (not_unlike, inl k))) h
 
-      module _ (order : List ℕ) (empty : IsEmpty (sequences_of p) order) where
-        -- a program with a crossing order isn't stalled
+      module _ (order : List Comm) (empty : IsEmpty (sequences_of p) p.buffer order) where
+        -- a program with an order for its buffer isn't stalled
         not_stalled : Never IsStalled p
         not_stalled q h =
             let stuck = (stalling p q h).2 in
@@ -139,28 +141,28 @@ module _ (laws : Laws) (p : ProgramCode) where
             none_some lack (sym (ap (λ ls. slice_get (lacks_of p ls) 0) one ∙ ap (λ ls. slice_get ls 0) enough) ∙ first)
 
         -- a bound above the limit comes last
-        pub over_first : (n : ℕ) (e : AcceptError) → n ≡ bound p labels → (4194304 < n) × (e ≡ A.Refused (R.Bound n))
+        pub over_first : (n : ℕ) (e : AcceptError) → n ≡ bound p labels → (STEPS < n) × (e ≡ A.Refused (R.Bound n))
             → IsFound (IsFirstOf label_trials) p e
         over_first n e is (over, same) =
-            let last : IsOverBound p (R.Bound n) = (labels, are, subst (λ k. 4194304 < k) is over, ap (λ k. R.Bound k) is) in
+            let last : IsOverBound p (R.Bound n) = (labels, are, subst (λ k. STEPS < k) is over, ap (λ k. R.Bound k) is) in
             subst (IsFound (IsFirstOf label_trials) p) (sym same)
             (inr (not_lacking, inr (not_falling, inr (not_few, inl last))))
 
-        module _ (n : ℕ) (is : n ≡ bound p labels) (within : n ≤ 4194304) where
+        module _ (n : ℕ) (is : n ≡ bound p labels) (within : n ≤ STEPS) where
           -- a bound within the limit isn't above it
           not_over : Never IsOverBound p
           not_over q (others, them, over, same) =
               let one : others ≡ labels = one_labelling laws p others labels them are in
-              absurd (omega (arith, subst (λ ls. 4194304 < bound p ls) one over, is, within))
+              absurd (omega (arith, subst (λ ls. STEPS < bound p ls) one over, is, within))
 
           -- then none of these trials applies
           pub passes : PassesAll label_trials p
           passes = (not_lacking, (not_falling, (not_few, (not_over, tt))))
 
-          -- and this is what there is, with a crossing order
-          pub judged : (order : List ℕ) → IsEmpty (sequences_of p) order → IsJudged p order labels n
+          -- and this is what there is, with an order for the buffer
+          pub judged : (order : List Comm) → IsEmpty (sequences_of p) p.buffer order → IsJudged p order labels n
           judged order empty = record {
-            crossing = empty.is_order;
+            ordered = empty.is_order;
             crossed = empty.rule;
             labels_are = are;
             consistent = consistent;

@@ -9,3 +9,4 @@ pub mod Moves
 pub mod FirstLack
 pub mod Unlabelled
 pub mod FallsInside
+pub mod SomeRefusal

@@ -1,12 +1,10 @@
 -- How often words move, message by message.
-use Rattle.std.proofs.Common.{◌≡◌, ℕ, ◌+◌, ◌-◌, ◌*◌, ◌<◌, ◌≤◌, [], length, get_or, slice_index, take, ap, refl, ◌∙◌, arith}
-use Rattle.std.proofs.lemmas.List.{take_all}
+use Rattle.std.proofs.Common.{◌≡◌, ℕ, ◌+◌, ◌-◌, ◌*◌, ◌<◌, ◌≤◌, [], length, get_or, slice_index, take, ap, sym, ◌∙◌, arith}
+use Rattle.std.proofs.lemmas.List.{get_or-map, take_all}
 use Rattle.std.proofs.lemmas.List.FromFn.{length-range_with_len, get_or-range_with_len, get_or-map-range_with_len}
 use Rattle.std.proofs.lemmas.List.Sums.{sum_by_more}
 use Rattle.std.proofs.lemmas.Nat.{mul-le}
-use Rattle.std.proofs.lemmas.Option.{slice_get_read}
 use Rattle.std.specs.List.{sum_by}
-use Rattle.std.specs.Option.{option_map_or}
 use Rattle.cell_types.specs.Code.{ProgramCode}
 use Rattle.cell_types.specs.Communications.{length_of}
 use Rattle.cell_types.specs.Groups.{below, lengths_of, route, forwards}
@@ -25,7 +23,7 @@ moves_before p i = sum_by (moves p) (take i (below (length p.messages)))
 pub route_at : (p : ProgramCode) (i : ℕ) (message : Message) → i < length p.messages → message ≡ get_or p.messages i message
     → route p i ≡ message.route
 route_at p i message within at =
-    ap (λ o. option_map_or (λ (m : Message). m.route) o []) (slice_get_read p.messages (length p.messages) i message refl within at)
+    get_or-map (λ (m : Message). m.route) p.messages i message [] within ∙ ap (λ (m : Message). m.route) (sym at)
 
 -- the moves before a message and those of its words are the moves before the next
 pub moves_more : (p : ProgramCode) (i words : ℕ) (message : Message) → i < length p.messages

@@ -1,6 +1,6 @@
 -- A text has at most one first refusal, and none where it is accepted.
 use Rattle.std.proofs.Common.{ℕ, ◌≡◌, Bool, List, [], Option, None, Some, inl, inr, true, false, length, take, slice_get, refl, sym, ap, subst, ◌∙◌}
-use Rattle.std.specs.Prelude.{MatchOption, IsSomeAnd, All, map, ◌++◌, ◌∷◌}
+use Rattle.std.specs.Prelude.{MatchOption, map, ◌∷◌}
 use Rattle.std.proofs.lemmas.Bool.{cases_order, cases_Bool}
 use Rattle.std.specs.List.{list_any}
 use Rattle.cell_lexer.specs.declared.error.LexError.{LexError}
@@ -23,19 +23,18 @@ use Rattle.cell_types.specs.declared.error.StaticError.{StaticError}
 use Rattle.comm_sequence.specs.Differing.{all_differing}
 use Rattle.comm_sequence.specs.Sequences.{Sequences, sequences_of}
 use Rattle.crossing_off.specs.Greedy.{left, fronts}
-use Rattle.crossing_off.specs.Walk.{IsLeastLeft, IsWait, IsEnd, IsWalk}
-use Rattle.crossing_off.specs.declared.answer.Residue.{Residue}
-use Rattle.crossing_off.specs.declared.waits.WaitWalk.{WaitWalk}
+use Rattle.crossing_off.specs.Walk.{IsWalkOver}
 use Rattle.labelling.specs.Falls.{IsFall}
 use Rattle.refusals.specs.declared.refusal.Refusal.{Refusal}
 use Rattle.refusals.specs.declared.refusal.Refusal.TheVariants as R
+use Rattle.refusals.specs.declared.walk.WalkLine.{WalkLine}
 use Rattle.accept.specs.declared.building.AcceptError.TheVariants as A
 use Rattle.accept.specs.FirstRefusal.{IsLong, IsMisspelt, IsOver, IsMisplaced, IsFaulty, IsCostly, HasUnlikeArms, IsStalled, HasSomeLabels, HasFallingLabels, HasTooFewQueues, IsOverBound, Trials, Passed, Try, program_trials, OfSource, of_source, trials, IsFirstOf, PassesAll, FirstRefusal, Accepts}
 use Rattle.accept.specs.Labelled.{IsLabelled, AreLabels, has_label, lacks_of, members_of}
-use Rattle.accept.specs.Laws.{Laws}
-use Rattle.accept.specs.Reading.{misspelt, misplaced}
+use Rattle.accept.specs.bodies.Laws.{Laws}
+use Rattle.accept.specs.bodies.Reading.{misspelt, misplaced}
 use Rattle.accept.specs.Source.{IsSource}
-use Rattle.accept.specs.Told.{grid_of, static_refusal, wait_line, end_line, walk_lines, fall_refusal, lack_refusal}
+use Rattle.accept.specs.Told.{static_refusal, walk_lines, fall_refusal, lack_refusal}
 use Rattle.accept.proofs.OneFall.{one_fall}
 
 -- ---- the first token over a limit
@@ -110,7 +109,7 @@ unlikeness p _ h = absurd h
 
 -- The refusal is that of a program that crossing-off doesn't empty.
 abbrev pub Stalling : ProgramCode → Refusal → Type 0
-Stalling p r = (n : ℕ) × (walk : List (List ℕ)) × IsStalled p (R.Crossing n walk) × (r ≡ R.Crossing n walk)
+Stalling p r = (n : ℕ) × (walk : List WalkLine) × IsStalled p (R.Crossing n walk) × (r ≡ R.Crossing n walk)
 
 -- and so is each one of the trial
 pub stalling : (p : ProgramCode) (r : Refusal) → IsStalled p r → Stalling p r
@@ -171,10 +170,10 @@ same_some x y e = cc
 
 -- the first fault of a source is told in one way
 same_fault : (s : Source) (e f : StaticError) (r q : Refusal) → slice_get (faults s) 0 ≡ Some e → slice_get (faults s) 0 ≡ Some f
-    → static_refusal (grid_of s) e ≡ Some r → static_refusal (grid_of s) f ≡ Some q → r ≡ q
+    → static_refusal s.cols e ≡ Some r → static_refusal s.cols f ≡ Some q → r ≡ q
 same_fault s e f r q x y told told_f =
     let same : e ≡ f = same_some e f (sym x ∙ y) in
-    same_some r q (sym told ∙ ap (static_refusal (grid_of s)) same ∙ told_f)
+    same_some r q (sym told ∙ ap (static_refusal s.cols) same ∙ told_f)
 
 -- the first `if` of a program has one line
 same_if : (p : ProgramCode) (c d l m : ℕ) → slice_get (all_differing p) 0 ≡ Some (c, l) → slice_get (all_differing p) 0 ≡ Some (d, m)
@@ -205,21 +204,6 @@ same_somes (x ∷ xs) (y ∷ ys) e =
     let rest : map (λ x. Some x) xs ≡ map (λ y. Some y) ys = cc in
     let tail : xs ≡ ys = same_somes xs ys rest in
     cc
-
--- a walk is one of each residue with the same first operations
-walk_over : (s : Sequences) (a b : Residue) (w : WaitWalk) → a.fronts.items ≡ b.fronts.items → IsWalk s a w → IsWalk s b w
-walk_over s a b w e h = record {
-  begins = subst (λ fs. IsSomeAnd (slice_get w.waits.items 0) (λ first. IsLeastLeft fs first.cell)) e h.begins;
-  waits = subst (λ fs. All (IsWait s fs) w.waits.items) e h.waits;
-  goes_on = h.goes_on;
-  differ = h.differ;
-  ends = subst (λ fs. IsEnd fs w.waits.items w.end) e h.ends;
-}
-
--- walks over the same waits with the same end have the same lines
-same_lines : (p : ProgramCode) (a b : WaitWalk) → a.waits.items ≡ b.waits.items → a.end ≡ b.end → walk_lines p a ≡ walk_lines p b
-same_lines p a b e f =
-    ap (λ ws. map (wait_line p) ws ++ end_line p a.end ∷ []) e ∙ ap (λ n. map (wait_line p) b.waits.items ++ end_line p n ∷ []) f
 
 -- a token, or the end of the text, has one line and one column
 place_unique : (text : List ℕ) (o : Option Token) (l c m d : ℕ) → HasPlace text o l c → HasPlace text o m d → R.Unexpected l c ≡ R.Unexpected m d
@@ -265,22 +249,19 @@ module _ (laws : Laws) where
   -- a source has one first fault
   faulty_unique : IsUnique IsFaulty
   faulty_unique text r q (s, is, e, first, told) (t, it, f, first_f, told_f) =
-      let moved = subst (λ u. (slice_get (faults u) 0 ≡ Some e) × (static_refusal (grid_of u) e ≡ Some r)) (one_source text s t is it) (first, told) in
+      let moved = subst (λ u. (slice_get (faults u) 0 ≡ Some e) × (static_refusal u.cols e ≡ Some r)) (one_source text s t is it) (first, told) in
       same_fault t e f r q moved.0 first_f moved.1 told_f
 
   -- a program is stuck in one way
   stalled_unique : IsUnique IsStalled
   stalled_unique p r q h k =
-      let (m, v, (a, ha, la, wa, iwa, ea), er) = stalling p r h in
-      let (n, w, (b, hb, lb, wb, iwb, eb), eq) = stalling p q k in
+      let (m, v, (a, ha, la, wa, da, iwa, ea), er) = stalling p r h in
+      let (n, w, (b, hb, lb, wb, db, iwb, eb), eq) = stalling p q k in
       let s : Sequences = sequences_of p in
-      let x = ha.is_residue in
-      let y = hb.is_residue in
-      let order : x.crossed ≡ y.crossed = laws.order s x.crossed y.crossed x.rule y.rule in
-      let lefts : m ≡ n = la ∙ x.left_is ∙ ap (left s) order ∙ sym y.left_is ∙ sym lb in
-      let firsts : a.fronts.items ≡ b.fronts.items = x.fronts_are ∙ ap (fronts s) order ∙ sym y.fronts_are in
-      let walks = laws.walk s b wa wb (walk_over s a b wa firsts iwa) iwb in
-      let lines : v ≡ w = ea ∙ same_lines p wa wb walks.0 walks.1 ∙ sym eb in
+      let order : a ≡ b = laws.order s p.buffer a b ha.rule hb.rule in
+      let lefts : m ≡ n = la ∙ ap (left s) order ∙ sym lb in
+      let walks = laws.walk s (fronts s b) wa wb da db (subst (λ c. IsWalkOver s (fronts s c) wa da) order iwa) iwb in
+      let lines : v ≡ w = ea ∙ (λ i. walk_lines p (walks.0 i) (walks.1 i)) ∙ sym eb in
       er ∙ (λ i. R.Crossing (lefts i) (lines i)) ∙ sym eq
 
   -- a program has one list of labels at most

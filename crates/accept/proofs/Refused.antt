@@ -1,7 +1,8 @@
 -- The first refusal of a text, and what there is of a text that has none.
 use Rattle.std.proofs.Common.{ℕ, ◌≡◌, ◌<◌, ◌≤◌, ◌⊎◌, List, [], Some, inl, inr, length, slice_get, refl, sym, ap, subst, ◌∙◌, Result, Ok, Err, arith}
-use Rattle.std.specs.Prelude.{IfOk, IfErr, IsTrue}
+use Rattle.std.specs.Prelude.{IfOk, IfErr}
 use Rattle.std.specs.Result.{IsErrAnd}
+use Rattle.sys_base.specs.declared.limits.TheConstants.{SOURCE_BYTES}
 use Rattle.cell_lexer.specs.declared.error.LexError.{LexError}
 use Rattle.cell_lexer.specs.declared.error.LexError.TheVariants as L
 use Rattle.cell_lexer.specs.declared.token.Token.{Token}
@@ -18,19 +19,18 @@ use Rattle.cell_types.specs.Code.{ProgramCode}
 use Rattle.cell_types.specs.Faults.{faults}
 use Rattle.cell_types.specs.Resolved.{program_of}
 use Rattle.cell_types.specs.Typed.{Contents, plain}
-use Rattle.refusals.specs.Texts.{is_kind_known}
 use Rattle.refusals.specs.declared.refusal.Refusal.{Refusal}
 use Rattle.refusals.specs.declared.refusal.Refusal.TheVariants as R
 use Rattle.accept.specs.declared.building.AcceptError.{AcceptError}
 use Rattle.accept.specs.declared.building.Built.{Built}
 use Rattle.accept.specs.declared.building.AcceptError.TheVariants as A
 use Rattle.accept.specs.Built.{IsBuilt, IsJudged, IsRefused}
-use Rattle.accept.specs.FirstRefusal.{IsLong, IsMisspelt, IsOver, IsMisplaced, IsFaulty, Trials, Passed, Try, program_trials, OfSource, of_source, IsFirstOf, PassesAll, FirstRefusal}
-use Rattle.accept.specs.Laws.{Laws}
-use Rattle.accept.specs.Reading.{misspelt, misplaced}
+use Rattle.accept.specs.FirstRefusal.{IsLong, IsMisspelt, IsOver, IsMisplaced, IsFaulty, Trials, Passed, Try, program_trials, OfSource, of_source, IsFirstOf, PassesAll, FirstRefusal, Accepts}
+use Rattle.accept.specs.bodies.Laws.{Laws}
+use Rattle.accept.specs.bodies.Reading.{misspelt, misplaced}
 use Rattle.accept.specs.Source.{IsSource}
-use Rattle.accept.specs.Answers.{IsFaultTold, IsFound}
-use Rattle.accept.proofs.OneRefusal.{misspelling, excess, misplacing, unlikeness, stalling, lacking, none_some, one_source}
+use Rattle.accept.specs.bodies.Answers.{IsFaultTold, IsFound}
+use Rattle.accept.proofs.OneRefusal.{misspelling, excess, misplacing, none_some, one_source}
 
 -- the trial never applies
 abbrev Never : {A : Type 0} → (A → Refusal → Type 0) → A → Type 0
@@ -40,58 +40,20 @@ Never Applies a = (q : Refusal) → Applies a q → ⊥
 abbrev static_trials : Trials (List ℕ)
 static_trials = Try IsFaulty (of_source program_trials)
 
--- a refusal of no wrong kind has no kind
-abbrev Known : (ProgramCode → Refusal → Type 0) → Type 0
-Known Applies = (p : ProgramCode) (r : Refusal) → Applies p r → IsTrue (is_kind_known r)
-
--- All of the trials give refusals of no wrong kind.
-abbrev AreKnown : Trials ProgramCode → Type 0
-AreKnown Passed = Unit {0}
-AreKnown (Try Applies rest) = Known Applies × AreKnown rest
-
--- so does the first of them that applies
-first_known : (ts : Trials ProgramCode) → AreKnown ts → Known (IsFirstOf ts)
-first_known Passed known p r h = absurd h
-first_known (Try Applies rest) known p r (inl h) = known.0 p r h
-first_known (Try Applies rest) known p r (inr h) = first_known rest known.1 p r h.1
-
--- and the refusals of programs are such
-program_known : Known (IsFirstOf program_trials)
-program_known =
-    first_known program_trials (
-      (λ p r h. subst (λ q. IsTrue (is_kind_known q)) (sym h.1) refl),
-      (
-        (λ p r h. subst (λ q. IsTrue (is_kind_known q)) (sym (unlikeness p r h).2) refl),
-        (
-          (λ p r h. subst (λ q. IsTrue (is_kind_known q)) (sym (stalling p r h).3) refl),
-          (
-            (λ p r h. subst (λ q. IsTrue (is_kind_known q)) (sym (lacking p r h).2) refl),
-            (
-              (λ p r h. subst (λ q. IsTrue (is_kind_known q)) (sym h.4) refl),
-              (
-                (λ p r h. subst (λ q. IsTrue (is_kind_known q)) (sym h.4) refl),
-                ((λ p r h. subst (λ q. IsTrue (is_kind_known q)) (sym h.3) refl), tt),
-              ),
-            ),
-          ),
-        ),
-      ),
-    )
-
 -- a text of too many bytes is refused first
-pub long_refused : (text : List ℕ) → 1048576 < length text → FirstRefusal text R.LongSource
+pub long_refused : (text : List ℕ) → SOURCE_BYTES < length text → FirstRefusal text R.LongSource
 long_refused text l = inl (l, refl)
 
-module _ (text : List ℕ) (short : length text ≤ 1048576) where
+module _ (text : List ℕ) (short : length text ≤ SOURCE_BYTES) where
   -- a text within the limit isn't too long
   not_long : Never IsLong text
   not_long q h = absurd (omega (arith, h.0))
 
   -- what the lexer finds wrong is refused first
   pub misspelt_refused : (e : LexError) → FirstFault text e ⊎ (e ≡ L.Memory) → IsRefused text (misspelt e)
-  misspelt_refused (L.BadByte at) (inl f) = (inr (not_long, inl f), refl)
-  misspelt_refused (L.BigNumber line) (inl f) = (inr (not_long, inl f), refl)
-  misspelt_refused (L.LongName line) (inl f) = (inr (not_long, inl f), refl)
+  misspelt_refused (L.BadByte at) (inl f) = inr (not_long, inl f)
+  misspelt_refused (L.BigNumber line) (inl f) = inr (not_long, inl f)
+  misspelt_refused (L.LongName line) (inl f) = inr (not_long, inl f)
   misspelt_refused (L.BadByte at) (inr e) = absurd (cc)
   misspelt_refused (L.BigNumber line) (inr e) = absurd (cc)
   misspelt_refused (L.LongName line) (inr e) = absurd (cc)
@@ -111,10 +73,10 @@ module _ (text : List ℕ) (short : length text ≤ 1048576) where
 
     -- what the parser finds wrong is refused first
     pub misplaced_refused : (e : ParseError) → C.IsRefused text ts e → IsRefused text (misplaced e)
-    misplaced_refused (P.LongPiece line) h = (inr (not_long, inr (not_misspelt, inl (ts, lexed, h))), refl)
-    misplaced_refused (P.Braces line) h = (inr (not_long, inr (not_misspelt, inl (ts, lexed, h))), refl)
+    misplaced_refused (P.LongPiece line) h = inr (not_long, inr (not_misspelt, inl (ts, lexed, h)))
+    misplaced_refused (P.Braces line) h = inr (not_long, inr (not_misspelt, inl (ts, lexed, h)))
     misplaced_refused (P.Unexpected line column) h =
-        (inr (not_long, inr (not_misspelt, inr (not_over h.kept, inl (ts, lexed, h)))), refl)
+        inr (not_long, inr (not_misspelt, inr (not_over h.kept, inl (ts, lexed, h))))
     misplaced_refused P.Memory h = tt
 
   module _ (laws : Laws) (s : Source) (is : IsSource text s) where
@@ -139,7 +101,7 @@ module _ (text : List ℕ) (short : length text ≤ 1048576) where
 
     -- the first fault is refused first
     pub fault_refused : (e : AcceptError) → IsFaultTold s e → IsRefused text e
-    fault_refused (A.Refused r) ((e, first, told), known) = (behind_reading r (inl (s, is, e, first, told)), known)
+    fault_refused (A.Refused r) (e, first, told) = behind_reading r (inl (s, is, e, first, told))
     fault_refused A.Memory h = tt
 
     module _ (none : faults s ≡ []) where
@@ -165,21 +127,21 @@ module _ (text : List ℕ) (short : length text ≤ 1048576) where
       passes_of (Try Applies rest) h = (never_of Applies h.0, passes_of rest h.1)
 
       -- the first refusal of its program is that of the text
-      program_refused : (e : AcceptError) → IsFound (IsFirstOf program_trials) (program_of s) e → IsRefused text e
-      program_refused (A.Refused r) h =
-          (behind_reading r (inr (not_faulty, first_of program_trials r h)), program_known (program_of s) r h)
+      pub program_refused : (e : AcceptError) → IsFound (IsFirstOf program_trials) (program_of s) e → IsRefused text e
+      program_refused (A.Refused r) h = behind_reading r (inr (not_faulty, first_of program_trials r h))
       program_refused A.Memory h = tt
+
+      -- and where its program has none, the text has none
+      pub accepts_of : PassesAll program_trials (program_of s) → Accepts text
+      accepts_of passes =
+          (not_long, (never_misspelt, (never_over, (not_misplaced, (not_faulty, passes_of program_trials passes)))))
 
       -- what is made of its program is made of the text
       is_built : (b : Built) → plain b.program ≡ program_of s → PassesAll program_trials (plain b.program)
-          → IsJudged (plain b.program) b.order.items b.labels.items b.bound → IsBuilt text b
+          → IsJudged (plain b.program) b.order b.labels.items b.bound → IsBuilt text b
       is_built b same passes judged =
-          let moved : PassesAll program_trials (program_of s) = subst (PassesAll program_trials) same passes in
           record {
-            accepts = (
-              not_long,
-              (never_misspelt, (never_over, (not_misplaced, (not_faulty, passes_of program_trials moved)))),
-            );
+            accepts = accepts_of (subst (PassesAll program_trials) same passes);
             source = s;
             is = is;
             program_is = same;
@@ -189,10 +151,10 @@ module _ (text : List ℕ) (short : length text ≤ 1048576) where
       -- what is answered for its program is answered for the text
       pub answer_built : (program : Contents) (r : Result Built AcceptError) → plain program ≡ program_of s
           → IfOk r (λ b. b.program ≡ program) → IfOk r (λ b. PassesAll program_trials (plain program))
-          → IfOk r (λ b. IsJudged (plain program) b.order.items b.labels.items b.bound) → IfOk r (IsBuilt text)
+          → IfOk r (λ b. IsJudged (plain program) b.order b.labels.items b.bound) → IfOk r (IsBuilt text)
       answer_built program (Ok b) same whole passes judged =
           is_built b (ap plain whole ∙ same) (subst (λ p. PassesAll program_trials (plain p)) (sym whole) passes)
-          (subst (λ p. IsJudged (plain p) b.order.items b.labels.items b.bound) (sym whole) judged)
+          (subst (λ p. IsJudged (plain p) b.order b.labels.items b.bound) (sym whole) judged)
       answer_built program (Err e) same whole passes judged = tt
 
       -- or the first refusal

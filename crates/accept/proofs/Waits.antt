@@ -20,7 +20,7 @@ use Rattle.crossing_off.specs.declared.waits.Wait.{Wait}
 use Rattle.crossing_off.specs.declared.waits.WaitWalk.{WaitWalk}
 use Rattle.crossing_off.specs.declared.waits.WalkEnd.{WalkEnd}
 use Rattle.crossing_off.specs.declared.waits.WalkEnd.TheVariants.{Again, NothingLeft}
-use Rattle.accept.specs.Answers.{IsWaitOf, IsEndOf}
+use Rattle.accept.specs.bodies.Answers.{IsWaitOf, IsEndOf}
 
 -- what holds of all of a list holds of the one at a place
 pub all_at : {A : Type 0} (P : A → Type 0) (xs : List A) (k : ℕ) (x : A) → All P xs → slice_get xs k ≡ Some x → P x
@@ -53,7 +53,7 @@ module _ (p : ProgramCode) (sound : IsSound p) where
       picked (λ (x : ℕ × ℕ). x.0) (λ n s. s.sender) m cell (slice_get p.messages m) refl
       (ap (option_map (λ (x : ℕ × ℕ). x.0)) (sym (slice_get-map (λ (n : Message). (n.from, n.to)) p.messages m)) ∙ e)
 
-  module _ (residue : Residue) (is : IsResidue (sequences_of p) residue) where
+  module _ (residue : Residue) (is : IsResidue (sequences_of p) p.buffer residue) where
     -- a residue has a place for each cell
     count : length residue.fronts.items ≡ cell_count p.grid
     count =
@@ -73,7 +73,7 @@ module _ (p : ProgramCode) (sound : IsSound p) where
     module _ (walk : WaitWalk) (h : IsWalk (sequences_of p) residue walk) where
       -- the waits of a walk
       pub waits_of : All (IsWaitOf p) walk.waits.items
-      waits_of = All-weaker (IsWait (sequences_of p) residue.fronts.items) (IsWaitOf p) wait_of walk.waits.items h.waits
+      waits_of = All-weaker (IsWait (sequences_of p) residue.fronts.items) (IsWaitOf p) wait_of walk.waits.items h.are_waits
 
       -- the cell that is waited for last
       last_cell : (k cell : ℕ) (o : Option Wait) → slice_get walk.waits.items k ≡ o → IsSomeAnd o (λ last. last.partner ≡ cell)

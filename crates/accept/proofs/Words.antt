@@ -1,17 +1,18 @@
 -- How many words the messages of a program have, and how often they move, where its cells have few steps.
-use Rattle.std.proofs.Common.{◌≡◌, ℕ, zero, suc, ◌+◌, ◌-◌, ◌*◌, ◌<◌, ◌≤◌, Bool, true, false, cond, nat_eq, List, [], ◌∷◌, length, slice_get, get_or, None, Some, ap, subst, ⊎_elim, arith}
+use Rattle.std.proofs.Common.{◌≡◌, ℕ, zero, suc, ◌+◌, ◌-◌, ◌*◌, ◌<◌, ◌≤◌, Bool, true, false, cond, nat_eq, List, [], ◌∷◌, length, slice_get, get_or, None, Some, ap, subst, ◌∙◌, ⊎_elim, arith}
 use Rattle.std.proofs.Math.Nat.{mul-le-mul, mul-le-mul_left}
 use Rattle.std.proofs.lemmas.Bool.{cases_eq, eq-eqb, ne_eqb}
 use Rattle.std.proofs.lemmas.List.Sums.{sum_by-cons, sum_by-append, sum_by-le, sum_by-le-sum_by}
+use Rattle.std.proofs.lemmas.List.{get_or-map, get_or_past, length-map}
 use Rattle.std.proofs.lemmas.Option.{slice_get_cases}
 use Rattle.std.specs.List.{count_by, flat_map, range_with_len, sum_by}
-use Rattle.std.specs.Option.{option_map_or}
 use Rattle.sys_base.specs.Grid.{Extent, cell_count}
+use Rattle.sys_base.specs.declared.limits.TheConstants.{STEPS}
 use Rattle.routes.specs.Walks.{IsPath}
 use Rattle.cell_types.specs.Code.{Expression, Number, Variable, Counter, Element, Negated, Applied, Action, Set, SetAt, Write, Read, Take, Emit, For, If, Block, End, Then, CellCode, ProgramCode}
 use Rattle.cell_types.specs.Communications.{Communication, Writes, Reads, Takes, Emits, copies, same_communication, times, action_communications, block_communications, length_of}
 use Rattle.cell_types.specs.Cost.{expression_cost, action_cost, block_cost, cells_cost}
-use Rattle.cell_types.specs.Groups.{below, route, forwards}
+use Rattle.cell_types.specs.Groups.{below, route, routes_of, forwards}
 use Rattle.cell_types.specs.Sound.{IsSound, IsSoundMessage}
 use Rattle.cell_types.specs.declared.program.Message.{Message}
 
@@ -154,7 +155,7 @@ abbrev pub HasShortRoutes : ProgramCode → Type 0
 HasShortRoutes p = (m : ℕ) → length (route p m) ≤ 1024
 
 -- cells of few steps write few words, which move few times over short routes
-pub few_forwards : (p : ProgramCode) (steps : ℕ) → HasShortRoutes p → steps ≡ cells_cost p → steps ≤ 4194304
+pub few_forwards : (p : ProgramCode) (steps : ℕ) → HasShortRoutes p → steps ≡ cells_cost p → steps ≤ STEPS
     → forwards p ≤ 2145386496
 few_forwards p steps short cost few =
     let n = length p.messages in
@@ -177,9 +178,10 @@ short_routes bounded p sound m =
     (λ (at : (x : Message) × (m < length p.messages) × (slice_get p.messages m ≡ Some x) × (get_or p.messages m x ≡ x)).
     let is : IsSoundMessage p.grid at.0 = subst (IsSoundMessage p.grid) at.3 (sound.messages m at.0 at.1) in
     let most = bounded p.grid at.0.from at.0.to at.0.route is.sender is.path in
-    let same = ap (λ o. length (option_map_or (λ (x : Message). x.route) o [])) at.2 in
-    omega (arith, cells, most, same))
+    let same : route p m ≡ at.0.route =
+    get_or-map (λ (x : Message). x.route) p.messages m at.0 [] at.1 ∙ ap (λ (x : Message). x.route) at.3 in
+    omega (arith, cells, most, ap length same))
     (λ (past : (length p.messages ≤ m) × (slice_get p.messages m ≡ None)).
-    let same = ap (λ o. length (option_map_or (λ (x : Message). x.route) o [])) past.1 in
-    omega (arith, same))
+    let none : route p m ≡ [] = get_or_past (routes_of p) m [] (omega (arith, past.0, length-map p.messages (λ (x : Message). x.route))) in
+    omega (arith, ap length none))
     (slice_get_cases p.messages m).1

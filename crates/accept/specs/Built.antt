@@ -1,15 +1,16 @@
 -- What there is of a text that is accepted.
-use Rattle.std.specs.Prelude.{ℕ, ◌≡◌, ◌≤◌, List, [], IsTrue}
+use Rattle.std.specs.Prelude.{ℕ, ◌≡◌, ◌≤◌, List, []}
+use Rattle.sys_base.specs.declared.limits.TheConstants.{STEPS}
 use Rattle.cell_tree.specs.declared.source.Source.{Source}
 use Rattle.cell_types.specs.Code.{ProgramCode}
 use Rattle.cell_types.specs.Groups.{bound}
 use Rattle.cell_types.specs.Resolved.{program_of}
 use Rattle.cell_types.specs.Typed.{plain}
-use Rattle.comm_sequence.specs.CrossingOrder.{IsCrossingOrder}
+use Rattle.comm_sequence.specs.BufferedOrder.{IsBufferedOrder}
 use Rattle.comm_sequence.specs.Labels.{IsConsistent}
 use Rattle.comm_sequence.specs.Sequences.{sequences_of}
+use Rattle.comm_sequence.specs.declared.comm.Comm.{Comm}
 use Rattle.crossing_off.specs.Greedy.{IsCrossed}
-use Rattle.refusals.specs.Texts.{is_kind_known}
 use Rattle.accept.specs.FirstRefusal.{Accepts, FirstRefusal}
 use Rattle.accept.specs.Labelled.{AreLabels, lacks_of}
 use Rattle.accept.specs.Source.{IsSource}
@@ -17,26 +18,27 @@ use Rattle.accept.specs.declared.building.AcceptError.{AcceptError}
 use Rattle.accept.specs.declared.building.AcceptError.TheVariants as A
 use Rattle.accept.specs.declared.building.Built.{Built}
 
--- The order is that of the greedy rule and a crossing order of the program, the labels are its messages' and never fall, no link
--- lacks queues, and the steps are the bound and within the limit.
-pub record IsJudged (program : ProgramCode) (order labels : List ℕ) (steps : ℕ) : Type 0 where
-  pub crossing : IsCrossingOrder (sequences_of program) order
-  pub crossed : IsCrossed (sequences_of program) order
+-- The order is one of the program's lists for its buffer and that of the greedy rule, the labels are its messages' and
+-- never fall, no link lacks queues, and the steps are the bound and within the limit.
+pub record IsJudged (program : ProgramCode) (order : List Comm) (labels : List ℕ) (steps : ℕ) : Type 0 where
+  pub ordered : IsBufferedOrder (sequences_of program).lists (sequences_of program).ends program.buffer order
+  pub crossed : IsCrossed (sequences_of program) program.buffer order
   pub labels_are : AreLabels program labels
   pub consistent : IsConsistent (sequences_of program).lists labels
   pub enough : lacks_of program labels ≡ []
   pub bound_is : steps ≡ bound program labels
-  pub within : steps ≤ 4194304
+  pub within : steps ≤ STEPS
 
--- The text has no refusal, and this is what is made of it: the program of its source, its order, its labels and its bound.
+-- The text has no refusal, and this is what is made of it: the program of its source, its order, its labels and its
+-- bound.
 pub record IsBuilt (text : List ℕ) (built : Built) : Type 0 where
   pub accepts : Accepts text
   pub source : Source
   pub is : IsSource text source
   pub program_is : plain built.program ≡ program_of source
-  pub judged : IsJudged (plain built.program) built.order.items built.labels.items built.bound
+  pub judged : IsJudged (plain built.program) built.order built.labels.items built.bound
 
 -- The error is the first refusal of the text, or memory ran out.
 abbrev pub IsRefused : List ℕ → AcceptError → Type 0
-IsRefused text (A.Refused r) = FirstRefusal text r × IsTrue (is_kind_known r)
+IsRefused text (A.Refused r) = FirstRefusal text r
 IsRefused text A.Memory = Unit {0}

@@ -1,5 +1,6 @@
 -- The first refusal of a text, and acceptance.
-use Rattle.std.specs.Prelude.{ℕ, ◌≡◌, ◌<◌, ◌⊎◌, List, length, slice_get, Some}
+use Rattle.std.specs.Prelude.{ℕ, ◌≡◌, ◌<◌, ◌≤◌, ◌⊎◌, List, length, slice_get, Some}
+use Rattle.sys_base.specs.declared.limits.TheConstants.{SOURCE_BYTES, STEPS}
 use Rattle.cell_lexer.specs.Faults.{FirstFault}
 use Rattle.cell_lexer.specs.Tokens.{TokensOf}
 use Rattle.cell_lexer.specs.declared.error.LexError.TheVariants as L
@@ -14,12 +15,15 @@ use Rattle.cell_types.specs.Faults.{faults}
 use Rattle.cell_types.specs.Groups.{bound}
 use Rattle.cell_types.specs.Resolved.{program_of}
 use Rattle.cell_types.specs.declared.error.StaticError.{StaticError}
+use Rattle.comm_sequence.specs.BufferedOrder.{IsBufferedOrder}
 use Rattle.comm_sequence.specs.Differing.{all_differing}
-use Rattle.comm_sequence.specs.Sequences.{sequences_of}
-use Rattle.crossing_off.specs.Answer.{IsLeft}
-use Rattle.crossing_off.specs.Walk.{IsWalk}
-use Rattle.crossing_off.specs.declared.answer.Residue.{Residue}
-use Rattle.crossing_off.specs.declared.waits.WaitWalk.{WaitWalk}
+use Rattle.comm_sequence.specs.Sequences.{Sequences, sequences_of}
+use Rattle.comm_sequence.specs.declared.comm.Comm.{Comm}
+use Rattle.crossing_off.specs.Greedy.{fronts, IsCrossed}
+use Rattle.crossing_off.specs.Greedy.{left as left_of}
+use Rattle.crossing_off.specs.Walk.{IsWalkOver}
+use Rattle.crossing_off.specs.declared.waits.Wait.{Wait}
+use Rattle.crossing_off.specs.declared.waits.WalkEnd.{WalkEnd}
 use Rattle.labelling.specs.Falls.{IsFall}
 use Rattle.labelling.specs.declared.falls.Fall.{Fall}
 use Rattle.queue_plan.specs.declared.lack.Lack.{Lack}
@@ -27,11 +31,11 @@ use Rattle.refusals.specs.declared.refusal.Refusal.{Refusal}
 use Rattle.refusals.specs.declared.refusal.Refusal.TheVariants as R
 use Rattle.accept.specs.Labelled.{IsLabelled, AreLabels, first_unlabelled, lacks_of, members_of}
 use Rattle.accept.specs.Source.{IsSource}
-use Rattle.accept.specs.Told.{grid_of, static_refusal, walk_lines, fall_refusal, lack_refusal}
+use Rattle.accept.specs.Told.{static_refusal, walk_lines, fall_refusal, lack_refusal}
 
 -- E05: the text is longer than a source may be.
 abbrev pub IsLong : List ℕ → Refusal → Type 0
-IsLong text r = (1048576 < length text) × (r ≡ R.LongSource)
+IsLong text r = (SOURCE_BYTES < length text) × (r ≡ R.LongSource)
 
 -- E01, E03, E04: the first byte or token that the language doesn't have.
 abbrev pub IsMisspelt : List ℕ → Refusal → Type 0
@@ -54,22 +58,34 @@ IsMisplaced text _ = ⊥
 -- E10 to E14 and E16 to E20: the first static fault of the source, in file order.
 abbrev pub IsFaulty : List ℕ → Refusal → Type 0
 IsFaulty text r =
-    (s : Source) × IsSource text s × (e : StaticError) × (slice_get (faults s) 0 ≡ Some e) × (static_refusal (grid_of s) e ≡ Some r)
+    (s : Source) × IsSource text s
+    × (e : StaticError) × (slice_get (faults s) 0 ≡ Some e) × (static_refusal s.cols e ≡ Some r)
 
 -- E60: the cells take more steps than are allowed.
 abbrev pub IsCostly : ProgramCode → Refusal → Type 0
-IsCostly program r = (4194304 < cells_cost program) × (r ≡ R.CellSteps)
+IsCostly program r = (STEPS < cells_cost program) × (r ≡ R.CellSteps)
 
 -- E15: the first `if` whose arms communicate differently.
 abbrev pub HasUnlikeArms : ProgramCode → Refusal → Type 0
 HasUnlikeArms program (R.ArmsDiffer line) = (cell : ℕ) × (slice_get (all_differing program) 0 ≡ Some (cell, line))
 HasUnlikeArms program _ = ⊥
 
--- E30: the greedy rule leaves so many operations, no crossing order exists, and these lines tell the walk.
+-- These are the operations that the greedy rule crosses for the buffer, something is left, and there is no order for the
+-- buffer of any kind.
+pub record StopsShort (s : Sequences) (buffer : ℕ) (crossed : List Comm) : Type 0 where
+  pub rule : IsCrossed s buffer crossed
+  pub some : 1 ≤ left_of s crossed
+  pub no_order : (order : List Comm) → IsBufferedOrder s.lists s.ends buffer order → ⊥
+
+-- E30: for the program's buffer the greedy rule stops short, this number of operations is left, and these lines tell
+-- the walk.
 abbrev pub IsStalled : ProgramCode → Refusal → Type 0
 IsStalled program (R.Crossing left lines) =
-    (residue : Residue) × IsLeft (sequences_of program) residue × (left ≡ residue.left)
-    × (walk : WaitWalk) × IsWalk (sequences_of program) residue walk × (lines ≡ walk_lines program walk)
+    (crossed : List Comm) × StopsShort (sequences_of program) program.buffer crossed
+    × (left ≡ left_of (sequences_of program) crossed)
+    × (waits : List Wait) × (end : WalkEnd)
+    × IsWalkOver (sequences_of program) (fronts (sequences_of program) crossed) waits end
+    × (lines ≡ walk_lines program waits end)
 IsStalled program _ = ⊥
 
 -- E41: the first message without a label, where another one has a label.
@@ -93,7 +109,7 @@ HasTooFewQueues program r =
 -- E61: the bound on the steps is more than is allowed.
 abbrev pub IsOverBound : ProgramCode → Refusal → Type 0
 IsOverBound program r =
-    (labels : List ℕ) × AreLabels program labels × (4194304 < bound program labels) × (r ≡ R.Bound (bound program labels))
+    (labels : List ℕ) × AreLabels program labels × (STEPS < bound program labels) × (r ≡ R.Bound (bound program labels))
 
 -- refusals of texts, or of programs, in the order in which they are tried
 pub data Trials (A : Type 0) : Type 1 where

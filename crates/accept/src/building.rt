@@ -3,7 +3,7 @@ ghost use Rattle.cell_tree.specs.Printable.{IsPrintable};
 ghost use Rattle.cell_types.specs.Faults.{faults};
 ghost use Rattle.cell_types.specs.Resolved.{program_of};
 ghost use Rattle.cell_types.specs.Typed.{plain};
-ghost use Rattle.accept.specs.Answers.{IsFaultTold};
+ghost use Rattle.accept.specs.bodies.Answers.{IsFaultTold};
 ghost use Rattle.accept.specs.Built.{IsBuilt, IsRefused};
 ghost use Rattle.accept.specs.Source.{IsSource};
 
@@ -14,11 +14,10 @@ use cell_lexer::tokens;
 use cell_parser::parse;
 use cell_tree::Source;
 use cell_types::{Program, resolve};
+use comm_sequence::Comm;
 use refusals::Refusal;
 use std::alloc::Global;
-
-/// The most bytes that a source has.
-pub const SOURCE_BYTES: usize = 1_048_576;
+use sys_base::{Items, SOURCE_BYTES};
 
 /// Why nothing is made of a source.
 #[derive(Debug, Drop)]
@@ -34,18 +33,19 @@ pub enum AcceptError {
 pub struct Built {
     /// The source with its names resolved.
     pub program: Program,
-    /// The messages, by index, in the order in which they are crossed off: each as often as it has words.
-    pub order: Vec<u16>,
+    /// All writes and reads in the order in which they are crossed off, which is an order for the program's buffer
+    /// (`docs/model.md`, "Crossing-off").
+    pub order: Items<Comm>,
     /// The label of each message, by its index: the source's, or the proposed one where the source has none.
     pub labels: Vec<u16>,
-    /// The bound on the steps (`docs/model.md`, "Bound"), at most 4,194,304.
+    /// The bound on the steps (`docs/model.md`, "Bound"), at most `STEPS`.
     pub bound: u32,
 }
 
 /// What is made of a source without a refusal, or its first refusal (`docs/refusals.md`). The text may be any bytes.
 ///
-/// The time is linear in the length of the text, in the steps that its cells take at most and in the lengths of the routes, but
-/// for a logarithm of the number of messages; proposing labels adds at most two million steps.
+/// The time is linear in the length of the text, in the steps that its cells take at most and in the lengths of the
+/// routes, but for a logarithm of the number of messages; proposing labels adds at most two million steps.
 pub fn build(alloc: Global, text: &[u8]) -> Result<Built, AcceptError>
     ensures built { IfOk result (IsBuilt text.now) }
     ensures refused { IfErr result (IsRefused text.now) }
@@ -61,7 +61,7 @@ pub fn build(alloc: Global, text: &[u8]) -> Result<Built, AcceptError>
 
 /// The source that a text is, or its first refusal.
 fn read(alloc: Global, text: &[u8]) -> Result<Source, AcceptError>
-    requires { length text.now ≤ 1048576 }
+    requires { length text.now ≤ SOURCE_BYTES }
     ensures source { IfOk result (IsSource text.now) }
     ensures printable { IfOk result IsPrintable }
     ensures refused { IfErr result (IsRefused text.now) }
@@ -80,6 +80,6 @@ fn resolved(alloc: Global, source: Source) -> Result<Program, AcceptError>
     let cols = source.cols;
     match resolve(alloc, source) {
         Ok(program) => Ok(program),
-        Err(fault) => Err(AcceptError::Refused(static_refusal(alloc, cols, fault)?)),
+        Err(fault) => Err(AcceptError::Refused(static_refusal(cols, fault)?)),
     }
 }

@@ -1,6 +1,6 @@
 //! What the errors of the layers below come to.
 ghost use Rattle.std.specs.Prelude.{◌≡◌};
-ghost use Rattle.accept.specs.Reading.{misspelt, misplaced, unlike};
+ghost use Rattle.accept.specs.bodies.Reading.{misspelt, misplaced, unlike};
 ghost use Rattle.accept.specs.declared.building.AcceptError.TheVariants as A;
 
 use crate::building::AcceptError;

@@ -1,36 +1,35 @@
 //! What is made of a program, or its first refusal.
-ghost use Rattle.std.specs.Prelude.{◌≡◌, ℕ, ◌<◌, ◌≤◌, List, IfOk, IfErr};
+ghost use Rattle.std.specs.Prelude.{◌≡◌, ◌<◌, ◌≤◌, List, IfOk, IfErr};
 ghost use Rattle.cell_types.specs.Cost.{cells_cost};
 ghost use Rattle.cell_types.specs.Sound.{IsSound};
 ghost use Rattle.cell_types.specs.Typed.{plain};
 ghost use Rattle.comm_sequence.specs.Sequences.{sequences_of};
+ghost use Rattle.comm_sequence.specs.declared.comm.Comm.{Comm};
 ghost use Rattle.crossing_off.specs.Answer.{IsEmpty};
 ghost use Rattle.refusals.specs.declared.refusal.Refusal.TheVariants as R;
-ghost use Rattle.accept.specs.Answers.{IsFound};
+ghost use Rattle.accept.specs.bodies.Answers.{IsFound};
 ghost use Rattle.accept.specs.Built.{IsJudged};
 ghost use Rattle.accept.specs.FirstRefusal.{IsFirstOf, IsStalled, PassesAll, label_trials, program_trials};
 ghost use Rattle.accept.specs.declared.building.AcceptError.TheVariants as A;
 
+use crate::bound::bound_of;
 use crate::building::{AcceptError, Built};
 use crate::labels::{labels_of, never_fall};
 use crate::laws::laws_below;
 use crate::queues::fitting_groups;
-use crate::steps::bound_of;
-use crate::walks::stall;
+use crate::stalls::stall;
 use cell_types::Program;
-use comm_sequence::{Seqs, cost, sequences};
+use comm_sequence::{Comm, Seqs, cost, sequences};
 use crossing_off::{Crossed, cross};
 use refusals::Refusal;
 use std::alloc::Global;
-
-/// The greatest bound on the steps of a program that is accepted.
-const STEPS: u32 = 4_194_304;
+use sys_base::{Items, STEPS};
 
 /// What is made of a program without a refusal, or its first refusal.
 pub fn judged(alloc: Global, program: Program) -> Result<Built, AcceptError>
     ensures program { IfOk result (λ b. b.program ≡ program) }
     ensures passes { IfOk result (λ b. PassesAll program_trials (plain program)) }
-    ensures judged { IfOk result (λ b. IsJudged (plain program) b.order.items b.labels.items b.bound) }
+    ensures judged { IfOk result (λ b. IsJudged (plain program) b.order b.labels.items b.bound) }
     ensures refused { IfErr result (IsFound (IsFirstOf program_trials) (plain program)) }
 {
     laws_below();
@@ -48,8 +47,8 @@ pub fn judged(alloc: Global, program: Program) -> Result<Built, AcceptError>
     })
 }
 
-/// The labels and the bound of a program, or the first refusal of its labels, its queues and its bound. Its cells take so many
-/// steps.
+/// The labels and the bound of a program whose cells take this number of steps, or the first refusal of its labels, its
+/// queues and its bound.
 fn bounded(
     alloc: Global,
     program: &Program,
@@ -58,9 +57,10 @@ fn bounded(
 ) -> Result<(Vec<u16>, u32), AcceptError>
     requires seqs { seqs.now ≡ sequences_of (plain program.now) }
     requires steps { steps ≡ cells_cost (plain program.now) }
-    requires few { steps ≤ 4194304 }
+    requires few { steps ≤ STEPS }
     ensures passes { IfOk result (λ _. PassesAll label_trials (plain program.now)) }
-    ensures judged { IfOk result (λ r. (order : List ℕ) → IsEmpty (sequences_of (plain program.now)) order
+    ensures judged { IfOk result (λ r. (order : List Comm)
+        → IsEmpty (sequences_of (plain program.now)) program.now.buffer order
         → IsJudged (plain program.now) order r.0.items r.1) }
     ensures refused { IfErr result (IsFound (IsFirstOf label_trials) (plain program.now)) }
 {
@@ -73,23 +73,23 @@ fn bounded(
     Ok((labels, bound))
 }
 
-/// The crossing order of the greedy rule, or the refusal of a program that has none.
-fn crossing_order(alloc: Global, program: &Program, seqs: &Seqs) -> Result<Vec<u16>, AcceptError>
+/// The order of the greedy rule for the program's buffer, or the refusal of a program that has no order for it.
+fn crossing_order(alloc: Global, program: &Program, seqs: &Seqs) -> Result<Items<Comm>, AcceptError>
     requires sound { IsSound (plain program.now) }
     requires seqs { seqs.now ≡ sequences_of (plain program.now) }
-    ensures empty { IfOk result (λ order. IsEmpty (sequences_of (plain program.now)) order.items) }
+    ensures empty { IfOk result (IsEmpty (sequences_of (plain program.now)) program.now.buffer) }
     ensures refused { IfErr result (IsFound IsStalled (plain program.now)) }
 {
-    match cross(alloc, seqs)? {
-        Crossed::Empty(order) => Ok(order),
+    match cross(alloc, seqs, program.buffer())? {
+        Crossed::Empty(order) => Ok(Items::from_vec(order)),
         Crossed::Left(residue) => Err(AcceptError::Refused(stall(alloc, program, seqs, &residue)?)),
     }
 }
 
 /// A bound on steps, or the refusal of one above the limit.
 fn limited(bound: u32) -> Result<u32, AcceptError>
-    ensures within { IfOk result (λ n. (n ≡ bound) × (n ≤ 4194304)) }
-    ensures refused { IfErr result (λ e. (4194304 < bound) × (e ≡ A.Refused (R.Bound bound))) }
+    ensures within { IfOk result (λ n. (n ≡ bound) × (n ≤ STEPS)) }
+    ensures refused { IfErr result (λ e. (STEPS < bound) × (e ≡ A.Refused (R.Bound bound))) }
 {
     if bound > STEPS {
         Err(AcceptError::Refused(Refusal::Bound { bound }))

@@ -6,22 +6,21 @@ ghost use Rattle.comm_sequence.specs.Labels.{IsConsistent};
 ghost use Rattle.comm_sequence.specs.Sequences.{sequences_of};
 ghost use Rattle.labelling.specs.Falls.{IsFall};
 ghost use Rattle.labelling.specs.declared.falls.Fall.{Fall};
-ghost use Rattle.accept.specs.Answers.{IsFallOf, IsFound, IsUnlabelled};
+ghost use Rattle.accept.specs.bodies.Answers.{IsFallOf, IsFound, IsUnlabelled};
 ghost use Rattle.accept.specs.FirstRefusal.{HasFallingLabels, HasSomeLabels};
 ghost use Rattle.accept.specs.Labelled.{AreLabels};
 ghost use Rattle.accept.specs.Told.{fall_refusal};
 
 use crate::building::AcceptError;
-use crate::places::place_of;
 use cell_types::{Message, Program};
 use comm_sequence::Seqs;
 use labelling::{Fall, check, propose};
 use refusals::Refusal;
 use std::alloc::Global;
-use sys_base::Memory;
+use sys_base::{CellName, Memory};
 
-/// The labels of the messages: those of the source, or the proposed ones where it has none; or the refusal of a program of which
-/// only some messages have labels.
+/// The labels of the messages: those of the source, or the proposed ones where it has none; or the refusal of a program
+/// where only some messages have labels.
 pub fn labels_of(alloc: Global, program: &Program, seqs: &Seqs) -> Result<Vec<u16>, AcceptError>
     requires seqs { seqs.now ≡ sequences_of (plain program.now) }
     ensures labels { IfOk result (λ labels. AreLabels (plain program.now) labels.items) }
@@ -69,7 +68,8 @@ pub fn never_fall(program: &Program, seqs: &Seqs, labels: &[u16]) -> Result<(), 
 /// A law: labels fall only at cells of the grid, between two of the program's messages.
 fn falls_inside(program: &Program, seqs: &Seqs)
     requires { seqs.now ≡ sequences_of (plain program.now) }
-    ensures { (labels : List ℕ) (fall : Fall) → IsFall (sequences_of (plain program.now)).lists labels fall → IsFallOf (plain program.now) fall }
+    ensures { (labels : List ℕ) (fall : Fall)
+        → IsFall (sequences_of (plain program.now)).lists labels fall → IsFallOf (plain program.now) fall }
 {
     prove!(program.messages().len() == usize::from(seqs.messages()));
 }
@@ -81,7 +81,7 @@ fn fall_refusal(program: &Program, labels: &[u16], fall: Fall) -> Result<Refusal
     ensures { IfOk result (λ r. r ≡ fall_refusal (plain program.now) labels.now fall) }
 {
     let messages = program.messages();
-    let (row, col) = place_of(u64::from(program.grid().cols()), fall.cell);
+    let CellName { row, col } = program.grid().cell_name(fall.cell);
     Ok(Refusal::Fall {
         row,
         col,

@@ -5,13 +5,12 @@ ghost use Rattle.cell_types.specs.Groups.{lengths_of};
 ghost use Rattle.cell_types.specs.Typed.{plain};
 ghost use Rattle.comm_sequence.specs.Sequences.{sequences_of};
 ghost use Rattle.queue_plan.specs.Grouping.{all_groups};
-ghost use Rattle.accept.specs.Answers.{AreKnown, IsFound, members_at};
+ghost use Rattle.accept.specs.bodies.Answers.{AreKnown, IsFound, members_at};
 ghost use Rattle.accept.specs.FirstRefusal.{HasTooFewQueues};
 ghost use Rattle.accept.specs.Labelled.{AreLabels, lacks_of};
 ghost use Rattle.accept.specs.Told.{lack_refusal, message_name};
 
 use crate::building::AcceptError;
-use crate::static_faults::link_name;
 use cell_types::Program;
 use comm_sequence::Seqs;
 use queue_plan::{Groups, Lack, group};
@@ -19,7 +18,8 @@ use refusals::Refusal;
 use std::alloc::Global;
 use sys_base::{Items, Memory, Name};
 
-/// The groups of the links, each with at most as many members as its link has queues; or the refusal of the first other one.
+/// The groups of the links, each with at most as many members as its link has queues; or the refusal of the first that
+/// has more.
 pub fn fitting_groups(
     alloc: Global,
     program: &Program,
@@ -29,7 +29,8 @@ pub fn fitting_groups(
     requires seqs { seqs.now ≡ sequences_of (plain program.now) }
     requires labels { AreLabels (plain program.now) labels.now }
     requires each { length labels.now ≡ length program.now.messages }
-    ensures groups { IfOk result (λ groups. groups ≡ all_groups (plain program.now) labels.now (lengths_of (plain program.now))) }
+    ensures groups { IfOk result (λ groups.
+        groups ≡ all_groups (plain program.now) labels.now (lengths_of (plain program.now))) }
     ensures enough { IfOk result (λ groups. lacks_of (plain program.now) labels.now ≡ []) }
     ensures refused { IfErr result (IsFound HasTooFewQueues (plain program.now)) }
 {
@@ -61,12 +62,12 @@ fn lack_refusal(
     requires link { lack.link < 4 * cell_count program.now.grid }
     requires links { length groups.now ≡ 4 * cell_count program.now.grid }
     requires known { AreKnown groups.now lack.link (length program.now.messages) }
-    ensures { IfOk result (λ r. r ≡ lack_refusal (plain program.now) lack (members_at groups.now lack.link lack.label)) }
+    ensures { IfOk result (λ r.
+        r ≡ lack_refusal (plain program.now) lack (members_at groups.now lack.link lack.label)) }
 {
-    let cols = u64::from(program.grid().cols());
     let members = members_of(groups, lack.link, lack.label);
     Ok(Refusal::TooFew {
-        link: link_name(alloc, cols, lack.link)?,
+        link: program.grid().link_name(lack.link),
         label: lack.label,
         need: lack.need,
         has: lack.has,

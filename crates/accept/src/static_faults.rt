@@ -1,26 +1,23 @@
 //! Static faults, told by the names of cells and links.
-ghost use Rattle.std.specs.Prelude.{◌≡◌, ◌/◌, ℕ, Some, IsTrue, IfOk};
-ghost use Rattle.cell_types.specs.Near.{IsNear, IsWhatNear, NamesNear};
+ghost use Rattle.std.specs.Prelude.{◌≡◌, Some, IfOk};
+ghost use Rattle.cell_types.specs.Near.{IsWhatNear, NamesNear};
 ghost use Rattle.cell_types.specs.declared.error.StaticError.TheVariants as S;
-ghost use Rattle.refusals.specs.Texts.{is_kind_known};
-ghost use Rattle.accept.specs.Told.{cell_name, kind_number, link_name, static_refusal, what_name};
+ghost use Rattle.accept.specs.Told.{kind_number, static_refusal, twice};
 
-use crate::places::{dir_of, place_of};
 use cell_types::{Found, RouteFault, StaticError, What};
-use refusals::{Refusal, cell_text, link_text};
-use std::alloc::Global;
-use sys_base::{Items, Memory, Name};
+use refusals::{Refusal, Twice};
+use sys_base::{CellName, LinkName, Memory, Name};
 
-/// The refusal of a static fault of a source whose grid has so many columns; `Memory` also where the fault is want of memory.
-pub fn static_refusal(alloc: Global, cols: u64, fault: StaticError) -> Result<Refusal, Memory>
+/// The refusal of a static fault of a source whose grid has this number of columns; `Memory` where the fault is want of
+/// memory.
+pub fn static_refusal(cols: u64, fault: StaticError) -> Result<Refusal, Memory>
     requires { NamesNear cols fault }
-    ensures told { IfOk result (λ r. (rows : ℕ) → static_refusal (record { rows = rows; cols = cols }) fault ≡ Some r) }
-    ensures known { IfOk result (λ r. IsTrue (is_kind_known r)) }
+    ensures { IfOk result (λ r. static_refusal cols fault ≡ Some r) }
 {
     Ok(match fault {
         StaticError::Limit { limit, line } => Refusal::Limit { limit, line },
         StaticError::Twice { what, line } => {
-            let what = what_name(alloc, cols, what)?;
+            let what = twice(cols, what);
             Refusal::Twice { what, line }
         }
         StaticError::OutsideGrid { line } => Refusal::OutsideGrid { line },
@@ -32,7 +29,7 @@ pub fn static_refusal(alloc: Global, cols: u64, fault: StaticError) -> Result<Re
             sends,
             line,
         } => {
-            let (row, col) = place_of(cols, cell);
+            let CellName { row, col } = CellName::of(cols, cell);
             Refusal::WrongEnd {
                 name,
                 row,
@@ -45,61 +42,36 @@ pub fn static_refusal(alloc: Global, cols: u64, fault: StaticError) -> Result<Re
             let found = kind_number(found);
             Refusal::WrongKind { name, found, line }
         }
-        StaticError::Route { name, error, line } => route_refusal(alloc, cols, name, error, line)?,
+        StaticError::Route { name, error, line } => route_refusal(cols, name, error, line),
         StaticError::Memory => return Err(Memory),
     })
 }
 
 /// The refusal of a route's fault.
-fn route_refusal(
-    alloc: Global,
-    cols: u64,
-    name: Name,
-    error: RouteFault,
-    line: u32,
-) -> Result<Refusal, Memory>
+fn route_refusal(cols: u64, name: Name, error: RouteFault, line: u32) -> Refusal
     requires { NamesNear cols (S.Route name error line) }
-    ensures told { IfOk result (λ r. (rows : ℕ) → static_refusal (record { rows = rows; cols = cols }) (S.Route name error line) ≡ Some r) }
-    ensures known { IfOk result (λ r. IsTrue (is_kind_known r)) }
+    ensures { static_refusal cols (S.Route name error line) ≡ Some result }
 {
     match error {
-        RouteFault::LeavesGrid => Ok(Refusal::RouteLeaves { name, line }),
-        RouteFault::WrongEnd => Ok(Refusal::RouteEnd { name, line }),
+        RouteFault::LeavesGrid => Refusal::RouteLeaves { name, line },
+        RouteFault::WrongEnd => Refusal::RouteEnd { name, line },
         RouteFault::LinkTwice { link } => {
-            let link = link_name(alloc, cols, link)?;
-            Ok(Refusal::RouteTwice { name, link, line })
+            let link = LinkName::of(cols, link);
+            Refusal::RouteTwice { name, link, line }
         }
     }
 }
 
-/// The name of what stands twice.
-fn what_name(alloc: Global, cols: u64, what: What) -> Result<Items<u8>, Memory>
+/// What stands twice.
+fn twice(cols: u64, what: What) -> Twice
     requires { IsWhatNear cols what }
-    ensures { IfOk result (λ name. (rows : ℕ) → name ≡ what_name (record { rows = rows; cols = cols }) what) }
+    ensures { result ≡ twice cols what }
 {
     match what {
-        What::Named(name) => Ok(Items::from_slice(alloc, name.bytes())?),
-        What::Cell(cell) => cell_name(alloc, cols, cell),
-        What::Link(link) => link_name(alloc, cols, link),
+        What::Named(name) => Twice::Named(name),
+        What::Cell(cell) => Twice::Cell(CellName::of(cols, cell)),
+        What::Link(link) => Twice::Link(LinkName::of(cols, link)),
     }
-}
-
-/// The name of a cell, by its index.
-fn cell_name(alloc: Global, cols: u64, cell: u16) -> Result<Items<u8>, Memory>
-    requires { IsNear cols cell }
-    ensures { IfOk result (λ name. (rows : ℕ) → name ≡ cell_name (record { rows = rows; cols = cols }) cell) }
-{
-    let (row, col) = place_of(cols, cell);
-    Ok(Items::from_vec(cell_text(alloc, row, col)?))
-}
-
-/// The name of a link, by its id.
-pub fn link_name(alloc: Global, cols: u64, link: u16) -> Result<Items<u8>, Memory>
-    requires { IsNear cols (link / 4) }
-    ensures { IfOk result (λ name. (rows : ℕ) → name ≡ link_name (record { rows = rows; cols = cols }) link) }
-{
-    let (row, col) = place_of(cols, link / 4);
-    Ok(Items::from_vec(link_text(alloc, row, col, dir_of(link))?))
 }
 
 /// The number of a kind.

@@ -1,4 +1,4 @@
-use Rattle.accept.specs.Reading.{misplaced}
+use Rattle.accept.specs.bodies.Reading.{misplaced}
 use Rattle.accept.proofs.Refused.{misplaced_refused, handed_on}
 use Rattle.accept.specs.Built.{IsRefused}
 use Rattle.accept.proofs.building.read.Goals as goal

@@ -1,6 +1,6 @@
 use Rattle.std.proofs.Common.{◌∙◌}
 use Rattle.cell_types.specs.Typed.{plain}
-use Rattle.accept.specs.Answers.{IsFound}
+use Rattle.accept.specs.bodies.Answers.{IsFound}
 use Rattle.accept.specs.FirstRefusal.{IsFirstOf, label_trials}
 use Rattle.accept.proofs.Judged.{bound_is, falling_first, few_first, over_first, passes, judged}
 use Rattle.accept.proofs.Refused.{handed_on}

@@ -1,5 +1,5 @@
 use Rattle.cell_types.specs.Typed.{plain}
-use Rattle.accept.specs.Answers.{IsFound}
+use Rattle.accept.specs.bodies.Answers.{IsFound}
 use Rattle.accept.specs.FirstRefusal.{IsFirstOf, program_trials}
 use Rattle.accept.proofs.Judged.{behind_order, passes_all, stalled_first}
 use Rattle.accept.proofs.Refused.{handed_on}
@@ -15,14 +15,14 @@ pub returns-in_err-labels-clause-refused : goal.returns-in_err-labels-clause-ref
 returns-in_err-labels-clause-refused c =
     handed_on (IsFound (IsFirstOf program_trials) (plain c.args.program)) _ c.in_err-labels.field-0.0 c.from_residual-in_err-labels.ensures.1
     (behind_order c.laws_below.ensures (plain c.args.program) c.in-Some.ensures.1
-    ((c.laws_below.ensures.alike (plain c.args.program)).0 c.in_ok-seqs.ensures.sequences.0) c.in_ok-order.order.items c.in_ok-order.ensures.empty
+    ((c.laws_below.ensures.alike (plain c.args.program)).0 c.in_ok-seqs.ensures.sequences.0) c.in_ok-order.order c.in_ok-order.ensures.empty
     c.in_err-labels.field-0.0 c.in_err-labels.ensures.refused)
 
 pub returns-clause-passes : goal.returns-clause-passes
 returns-clause-passes c =
     passes_all c.laws_below.ensures (plain c.args.program) c.in-Some.ensures.1
-    ((c.laws_below.ensures.alike (plain c.args.program)).0 c.in_ok-seqs.ensures.sequences.0) c.in_ok-order.order.items c.in_ok-order.ensures.empty
+    ((c.laws_below.ensures.alike (plain c.args.program)).0 c.in_ok-seqs.ensures.sequences.0) c.in_ok-order.order c.in_ok-order.ensures.empty
     c.in_ok-labels.ensures.passes
 
 pub returns-clause-judged : goal.returns-clause-judged
-returns-clause-judged c = c.in_ok-labels.ensures.judged c.in_ok-order.order.items c.in_ok-order.ensures.empty
+returns-clause-judged c = c.in_ok-labels.ensures.judged c.in_ok-order.order c.in_ok-order.ensures.empty

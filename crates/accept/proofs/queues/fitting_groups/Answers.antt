@@ -9,7 +9,7 @@ use Rattle.comm_sequence.specs.Sequences.{Sequences, sequences_of}
 use Rattle.queue_plan.specs.Grouping.{all_groups}
 use Rattle.queue_plan.specs.Lacks.{lacks}
 use Rattle.queue_plan.specs.declared.lack.Lack.{Lack}
-use Rattle.accept.specs.Answers.{AreKnown, members_at}
+use Rattle.accept.specs.bodies.Answers.{AreKnown, members_at}
 use Rattle.accept.specs.Labelled.{lacks_of}
 use Rattle.accept.specs.Told.{lack_refusal}
 use Rattle.accept.proofs.FirstLack.{all_known, count_links, first_lack}

@@ -2,7 +2,9 @@ use Rattle.std.proofs.Common.{◌<◌, All, length, map, sym, ap, ap₂, subst, 
 use Rattle.cell_types.specs.Typed.{plain}
 use Rattle.queue_plan.specs.Grouping.{groups_at}
 use Rattle.refusals.specs.declared.refusal.Refusal.TheVariants as R
-use Rattle.accept.specs.Told.{link_name, message_name}
+use Rattle.sys_base.specs.Grid.{Extent}
+use Rattle.sys_base.specs.Names.{link_name}
+use Rattle.accept.specs.Told.{message_name}
 use Rattle.accept.proofs.FirstLack.{is_of, members_known}
 use Rattle.accept.proofs.queues.lack_refusal.Goals as goal
 
@@ -14,11 +16,7 @@ names_of-requires c =
 
 pub returns : goal.returns
 returns c =
-    let grid = c.args.program.now.grid in
-    let cols = c.from-cols.ensures ∙ c.cols.ensures.cols ∙ ap (λ g. g.cols) c.grid.ensures.grid in
-    let link =
-    c.in_ok-link_name.ensures grid.rows
-    ∙ ap (λ n. link_name (record { rows = grid.rows; cols = n }) c.args.lack.link) cols in
+    let link = c.link_name.ensures ∙ ap (λ (g : Extent). link_name g.cols c.args.lack.link) c.grid.ensures.grid in
     let names =
     c.in_ok-names_of.ensures ∙ ap (map (message_name (plain c.args.program.now))) c.members_of-members.ensures in
     ap₂ (λ l ns. R.TooFew l c.args.lack.label c.args.lack.need c.args.lack.has ns) link names

@@ -1,7 +1,7 @@
 use Rattle.std.proofs.Common.{◌≡◌, ◌*◌, ◌≤◌}
 use Rattle.cell_types.specs.Typed.{plain}
 use Rattle.accept.proofs.Moves.{moves_before}
-use Rattle.accept.proofs.steps.forwards.Given as goal
+use Rattle.accept.proofs.bound.forwards.Given as goal
 
 abbrev pub invariant-loop-index : goal.invariant-loop-index
 invariant-loop-index l = record {

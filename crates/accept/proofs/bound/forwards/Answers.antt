@@ -2,7 +2,7 @@ use Rattle.std.proofs.Common.{◌≡◌, ◌-◌, ◌*◌, ◌<◌, ◌≤◌, l
 use Rattle.cell_types.specs.Typed.{plain}
 use Rattle.comm_sequence.specs.Sequences.{Sequences}
 use Rattle.accept.proofs.Moves.{moves_more, moves_all, few_moves}
-use Rattle.accept.proofs.steps.forwards.Goals as goal
+use Rattle.accept.proofs.bound.forwards.Goals as goal
 
 -- the message is the one at the index
 at : (c : goal.After-len) → c.message-item.result ≡ get_or c.args.program.now.messages c.loop-index.index c.message-item.result

@@ -9,12 +9,13 @@ use cell_types::Program;
 use comm_sequence::Seqs;
 use queue_plan::Groups;
 use routes::path_bounds;
+use sys_base::STEPS;
 
 /// The steps of the cells, the moves of words from one link to the next, and the groups of all links.
 pub fn bound_of(program: &Program, seqs: &Seqs, groups: &Groups, steps: u32) -> u32
     requires seqs { seqs.now ≡ sequences_of (plain program.now) }
     requires steps { steps ≡ cells_cost (plain program.now) }
-    requires few { steps ≤ 4194304 }
+    requires few { steps ≤ STEPS }
     ensures { result ≡ cells_cost (plain program.now) + forwards (plain program.now) + sum_by length groups.now }
 {
     short_routes(program);

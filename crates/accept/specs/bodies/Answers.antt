@@ -1,5 +1,5 @@
 -- What the parts of acceptance answer, each of a source or a program.
-use Rattle.std.specs.Prelude.{ℕ, ◌≡◌, ◌<◌, List, [], find, length, nat_eq, slice_get, All, Some, IsTrue}
+use Rattle.std.specs.Prelude.{ℕ, ◌≡◌, ◌<◌, List, [], find, length, nat_eq, slice_get, All, Some}
 use Rattle.std.specs.Option.{option_map_or}
 use Rattle.sys_base.specs.Grid.{cell_count}
 use Rattle.cell_tree.specs.declared.source.Source.{Source}
@@ -13,18 +13,17 @@ use Rattle.crossing_off.specs.declared.waits.WalkEnd.{WalkEnd}
 use Rattle.crossing_off.specs.declared.waits.WalkEnd.TheVariants.{Again, NothingLeft}
 use Rattle.labelling.specs.declared.falls.Fall.{Fall}
 use Rattle.queue_plan.specs.Grouping.{groups_at}
-use Rattle.refusals.specs.Texts.{is_kind_known}
 use Rattle.refusals.specs.declared.refusal.Refusal.{Refusal}
 use Rattle.refusals.specs.declared.refusal.Refusal.TheVariants as R
 use Rattle.accept.specs.Labelled.{first_unlabelled}
-use Rattle.accept.specs.Told.{grid_of, static_refusal}
+use Rattle.accept.specs.Told.{static_refusal}
 use Rattle.accept.specs.declared.building.AcceptError.{AcceptError}
 use Rattle.accept.specs.declared.building.AcceptError.TheVariants as A
 
 -- The error is the refusal of the source's first fault, or memory ran out.
 abbrev pub IsFaultTold : Source → AcceptError → Type 0
 IsFaultTold s (A.Refused r) =
-    ((e : StaticError) × (slice_get (faults s) 0 ≡ Some e) × (static_refusal (grid_of s) e ≡ Some r)) × IsTrue (is_kind_known r)
+    (e : StaticError) × (slice_get (faults s) 0 ≡ Some e) × (static_refusal s.cols e ≡ Some r)
 IsFaultTold s A.Memory = Unit {0}
 
 -- The cells of the wait are in the grid, and its message is one of the program's.
@@ -57,8 +56,9 @@ pub record IsFallOf (program : ProgramCode) (fall : Fall) : Type 0 where
 
 -- the members of the first group with this label on a link, none where it has no such group
 abbrev pub members_at : List (List (ℕ × List ℕ)) → ℕ → ℕ → List ℕ
-members_at links link label = option_map_or (λ (g : ℕ × List ℕ). g.1) (find (λ (g : ℕ × List ℕ). nat_eq g.0 label) (groups_at links link)) []
+members_at links link label =
+    option_map_or (λ (g : ℕ × List ℕ). g.1) (find (λ (g : ℕ × List ℕ). nat_eq g.0 label) (groups_at links link)) []
 
--- All members of the groups of a link are among so many messages.
+-- All members of the groups of a link are among this number of messages.
 abbrev pub AreKnown : List (List (ℕ × List ℕ)) → ℕ → ℕ → Type 0
 AreKnown links link messages = All (λ (g : ℕ × List ℕ). All (λ message. message < messages) g.1) (groups_at links link)

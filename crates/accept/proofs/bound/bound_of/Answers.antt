@@ -1,7 +1,7 @@
 use Rattle.std.proofs.Common.{arith}
 use Rattle.cell_types.specs.Typed.{plain}
 use Rattle.accept.proofs.Words.{few_forwards}
-use Rattle.accept.proofs.steps.bound_of.Goals as goal
+use Rattle.accept.proofs.bound.bound_of.Goals as goal
 
 pub overflow_add-bound : goal.overflow_add-bound
 overflow_add-bound c =
