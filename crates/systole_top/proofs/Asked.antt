@@ -1,16 +1,13 @@
 -- A command reads no file but those that it names.
 use Rattle.std.proofs.Common.{ℕ, List, Option, Contains, refl, sym, subst, inl, inr, arith}
-use Rattle.systole_top.specs.Commands.{judgement_of, judged, accepted, passes, accepted_reply, explain_reply, tree_of, files_of}
+use Rattle.systole_top.specs.Commands.{judgement_of, judged, check_reply, explain_reply, tree_of, files_of}
 use Rattle.systole_top.specs.Shape.{Shape, Check, Explain}
-use Rattle.systole_top.specs.Tree.{Tree, Gives, Says, Reads, Picks, then_, Tries, Asks}
-use Rattle.systole_top.specs.declared.judgement.Judgement.{Judgement}
-use Rattle.systole_top.specs.declared.judgement.Judgement.TheVariants.{Accepted, Refused}
-use Rattle.accept.specs.declared.building.TheConstants.{SOURCE_BYTES}
+use Rattle.systole_top.specs.Tree.{Tree, Gives, Reads, Picks, then_, Tries, Asks}
+use Rattle.sys_base.specs.declared.limits.TheConstants.{SOURCE_BYTES}
 
 -- what is read is asked for
 pub asks_tries : {A : Type 0} (held : List ℕ → Option (List ℕ)) (These : List ℕ → Type 0) (t : Tree A) (wanted : List ℕ) → Asks These t → Tries held t wanted → These wanted
 asks_tries held These (Gives x) wanted asks tries = absurd tries
-asks_tries held These (Says r) wanted asks tries = absurd tries
 asks_tries held These (Reads name limit next) wanted asks tries =
     elim tries [
       | inl here ↦ subst These (sym here) asks.0
@@ -22,7 +19,6 @@ asks_tries held These (Picks P next) wanted asks tries = asks_tries held These (
 pub asks_then : {A B : Type 0} (These : List ℕ → Type 0) (t : Tree A) (f : A → Tree B) → Asks These t → ((x : A) → Asks These (f x)) → Asks These (then_ t f)
 unfolding then_
 asks_then These (Gives x) f asks after = after x
-asks_then These (Says r) f asks after = tt
 asks_then These (Reads name limit next) f asks after = (asks.0, λ file. asks_then These (next file) f (asks.1 file) after)
 asks_then These (Picks P next) f asks after = λ x. asks_then These (next x) f (asks x) after
 
@@ -31,19 +27,12 @@ asks_then These (Picks P next) f asks after = λ x. asks_then These (next x) f (
 pub asks_judged : (These : List ℕ → Type 0) (file : List ℕ) → These file → Asks These (judged file)
 asks_judged These file named = asks_then These (Reads file SOURCE_BYTES Gives) judgement_of (named, λ x. tt) (λ x y. tt)
 
-pub asks_passes : (These : List ℕ → Type 0) (j : Judgement) → Asks These (passes j)
-asks_passes These Accepted = tt
-asks_passes These (Refused refusal) = tt
-
-pub asks_accepted : (These : List ℕ → Type 0) (file : List ℕ) → These file → Asks These (accepted file)
-asks_accepted These file named = asks_then These (judged file) passes (asks_judged These file named) (asks_passes These)
-
 -- ---- commands
 
 pub asks : (s : Shape) → Asks (Contains (files_of s)) (tree_of s)
 asks (Check file) =
     let These = Contains (files_of (Check file)) in
-    asks_then These (accepted file) (λ _. Gives accepted_reply) (asks_accepted These file (0, omega arith, refl)) (λ x. tt)
+    asks_then These (judged file) (λ judgement. Gives (check_reply judgement)) (asks_judged These file (0, omega arith, refl)) (λ x. tt)
 asks (Explain file) =
     let These = Contains (files_of (Explain file)) in
     asks_then These (judged file) (λ judgement. Gives (explain_reply judgement)) (asks_judged These file (0, omega arith, refl)) (λ x. tt)

@@ -9,9 +9,9 @@ use Rattle.refusals.specs.Explanations.{explanation}
 use Rattle.refusals.specs.declared.refusal.Refusal.{Refusal}
 use Rattle.refusals.specs.declared.refusal.Refusal.TheVariants.{LongSource}
 use Rattle.systole_top.specs.Causes.{IsAnswer, Names, Answers, Judges, IsOrFault, IsChecked, Checks}
-use Rattle.systole_top.specs.Commands.{tree_of, passes, accepted_reply, explain_reply}
+use Rattle.systole_top.specs.Commands.{tree_of, accepted_reply, check_reply, explain_reply}
 use Rattle.systole_top.specs.Judgement.{IsJudged}
-use Rattle.systole_top.specs.Reply.{Reply, Outcome, outcome_of}
+use Rattle.systole_top.specs.Reply.{Reply, Outcome, outcome_of, usage}
 use Rattle.systole_top.specs.Texts.{accepted_line, refusal_line}
 use Rattle.systole_top.specs.Shape.{Shape, Check, Explain}
 use Rattle.systole_top.specs.Sides.{Stream, Reaches}
@@ -19,7 +19,7 @@ use Rattle.systole_top.specs.Tree.{Tree, Gives, within, Replies, then_}
 use Rattle.systole_top.specs.declared.answer.Verdict.TheVariants as Verdict
 use Rattle.systole_top.specs.declared.judgement.Judgement.{Judgement}
 use Rattle.systole_top.specs.declared.judgement.Judgement.TheVariants.{Accepted, Refused}
-use Rattle.accept.specs.declared.building.TheConstants.{SOURCE_BYTES}
+use Rattle.sys_base.specs.declared.limits.TheConstants.{SOURCE_BYTES}
 use Rattle.systole_top.specs.declared.status.Status.{Status}
 use Rattle.systole_top.proofs.Reading.{within-whole}
 
@@ -93,14 +93,12 @@ module _ (held : List ℕ → Option (List ℕ)) (file text : List ℕ) (told : 
 -- ---- what follows on a judgement
 
 module _ (held : List ℕ → Option (List ℕ)) where
-  -- `check` ends at a refusal
-  check_is : (j : Judgement) (r : Reply) → Replies held (then_ (passes j) (λ _. Gives accepted_reply)) r → r ≡ reply_to (λ q. []) refusal_line j
-  unfolding then_
+  -- `check` answers both
+  check_is : (j : Judgement) (r : Reply) → Replies held (Gives (check_reply j)) r → r ≡ reply_to (λ q. []) refusal_line j
   check_is Accepted r is = sym is
   check_is (Refused q) r is = sym is
 
-  check_there : (j : Judgement) → Replies held (then_ (passes j) (λ _. Gives accepted_reply)) (reply_to (λ q. []) refusal_line j)
-  unfolding then_
+  check_there : (j : Judgement) → Replies held (Gives (check_reply j)) (reply_to (λ q. []) refusal_line j)
   check_there Accepted = refl
   check_there (Refused q) = refl
 
@@ -118,8 +116,8 @@ module _ (held : List ℕ → Option (List ℕ)) where
   unfolding then_
   check_replies file text told = record {
     named = named_told held file text told;
-    judged = tail_judged held file text told (λ j. then_ (passes j) (λ _. Gives accepted_reply)) (λ q. []) refusal_line check_is;
-    replies = tail_replies held file text told (λ j. then_ (passes j) (λ _. Gives accepted_reply)) (λ q. []) refusal_line check_there;
+    judged = tail_judged held file text told (λ j. Gives (check_reply j)) (λ q. []) refusal_line check_is;
+    replies = tail_replies held file text told (λ j. Gives (check_reply j)) (λ q. []) refusal_line check_there;
   }
 
   -- what `explain F` says
@@ -208,3 +206,35 @@ module _ (held : List ℕ → Option (List ℕ)) (before now : List ℕ → ℕ)
   checks_of None answers judges = tt
   checks_of (Some (Check file)) answers judges = checked_told (Check file) (λ r. []) refusal_line (held file) (check_replies held file) answers judges
   checks_of (Some (Explain file)) answers judges = checked_told (Explain file) explanation (λ r. []) (held file) (explain_replies held file) answers judges
+
+-- ---- there is an answer
+
+-- Every text is accepted or has a first refusal.
+abbrev pub SomeJudgement : Type 0
+SomeJudgement = (text : List ℕ) → Accepts text ⊎ ((r : Refusal) × FirstRefusal text r)
+
+-- a told file has an answer
+answer_told : SomeJudgement → (held : List ℕ → Option (List ℕ)) (s : Shape) (text : List ℕ) (on_out on_err : Refusal → List ℕ)
+    → RepliesTo held s text on_out on_err → (a : Outcome) × IsAnswer (Some s) held a
+answer_told law held s text on_out on_err says =
+    let reply = reply_to on_out on_err in
+    elim (law text) [
+      | inl is ↦ (outcome_of (reply Accepted), (reply Accepted, says.replies Accepted is, refl))
+      | inr first ↦
+          (outcome_of (reply (Refused first.0)), (reply (Refused first.0), says.replies (Refused first.0) first.1, refl))
+    ]
+
+-- a file that is told, or isn't
+answer_of : SomeJudgement → (held : List ℕ → Option (List ℕ)) (s : Shape) (on_out on_err : Refusal → List ℕ) (o : Option (List ℕ))
+    → IsSome o → ((text : List ℕ) → o ≡ Some text → RepliesTo held s text on_out on_err) → (a : Outcome) × IsAnswer (Some s) held a
+answer_of law held s on_out on_err None told says = absurd (cc)
+answer_of law held s on_out on_err (Some text) told says = answer_told law held s text on_out on_err (says text refl)
+
+-- where the files that the words name are told, there is an answer
+pub some_answer : SomeJudgement → (held : List ℕ → Option (List ℕ)) (asked : Option Shape)
+    → ((name : List ℕ) → Names asked name → IsSome (held name)) → (a : Outcome) × IsAnswer asked held a
+some_answer law held None told = (usage, refl)
+some_answer law held (Some (Check file)) told =
+    answer_of law held (Check file) (λ r. []) refusal_line (held file) (told file (0, omega arith, refl)) (check_replies held file)
+some_answer law held (Some (Explain file)) told =
+    answer_of law held (Explain file) explanation (λ r. []) (held file) (told file (0, omega arith, refl)) (explain_replies held file)

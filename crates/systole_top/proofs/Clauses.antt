@@ -2,22 +2,22 @@
 use Rattle.std.proofs.Common.{◌≡◌, ◌≢◌, ◌⊎◌, ℕ, List, Option, None, Some, IfSome, IsSome, IsSomeAnd, Contains, Result, Ok, Err, refl, sym, ap, ◌∙◌, subst, inl, inr, arith}
 use Rattle.std.specs.Io.KnownBytes.{Appends}
 use Rattle.sys_outside.specs.Fault.{Rose}
-use Rattle.systole_top.specs.Causes.{IsUnread, May, Tells, Answers, Judges, Checks, UsageCause, ReadCause, StoodStill, Completes}
+use Rattle.systole_top.specs.Causes.{IsAnswer, Names, IsUnread, May, Tells, Answers, Judges, Checks, UsageCause, ReadCause, MemoryCause, StoodStill, Completes}
 use Rattle.systole_top.specs.Commands.{tree_of, files_of}
 use Rattle.systole_top.specs.Reply.{Reply, Outcome, status_of, outcome_of, usage, unread, no_memory}
-use Rattle.systole_top.specs.Runs.{Said, Unread, NoMemory, End, Gave, Stopped, Runs, Steps}
+use Rattle.systole_top.specs.bodies.Runs.{Unread, NoMemory, End, Gave, Stopped, Runs, Steps}
 use Rattle.systole_top.specs.Shape.{Shape}
 use Rattle.systole_top.specs.Sides.{Stream, stream, Reaches, PutsOn}
-use Rattle.systole_top.specs.Stops.{ended, reply_of, told_by}
+use Rattle.systole_top.specs.bodies.Stops.{ended, reply_of, told_by}
 use Rattle.systole_top.specs.Texts.{cannot_read, usage_line}
-use Rattle.systole_top.specs.Tree.{Tree, Gives, Says, Reads, Picks, within, Replies, Comes, Tries, Asks}
+use Rattle.systole_top.specs.Tree.{Tree, Gives, Reads, Picks, within, Replies, Comes, Tries, Asks}
 use Rattle.systole_top.specs.declared.answer.Answer.{Answer}
 use Rattle.systole_top.specs.declared.answer.Stop.{Stop}
 use Rattle.systole_top.specs.declared.answer.Verdict.{Verdict}
 use Rattle.systole_top.specs.declared.answer.Verdict.TheVariants.{Done, Refused}
 use Rattle.systole_top.specs.declared.status.Status.{Status}
 use Rattle.systole_top.proofs.Asked.{asks, asks_tries}
-use Rattle.systole_top.proofs.Checked.{checks_of}
+use Rattle.systole_top.proofs.Checked.{SomeJudgement, checks_of, some_answer}
 use Rattle.systole_top.proofs.Reaching.{reaches_err}
 
 -- ---- verdicts
@@ -38,13 +38,11 @@ verdict Refused = record { usage = λ e. cc; read = λ e. cc; write = λ e. cc; 
 -- what the end of a step tells
 abbrev outcome_end : End Reply → Outcome
 outcome_end (Gave r) = outcome_of r
-outcome_end (Stopped (Said r)) = outcome_of r
 outcome_end (Stopped (Unread line)) = unread line
 outcome_end (Stopped NoMemory) = no_memory
 
 told_by-ended : (answer : Result Answer Stop) → outcome_end (ended reply_of answer) ≡ told_by answer
 told_by-ended (Ok answer) = refl
-told_by-ended (Err (Stop.Says answer)) = refl
 told_by-ended (Err (Stop.Unread line)) = refl
 told_by-ended (Err Stop.Memory) = refl
 
@@ -59,8 +57,6 @@ runs_may : (held : List ℕ → Option (List ℕ)) (before now : List ℕ → �
     → Runs held before now t end → MayTell held before now t (outcome_end end)
 runs_may held before now (Gives x) end r =
     elim r [ inl gave ↦ inl (x, refl, ap outcome_end gave) | inr none ↦ inr (inr (ap outcome_end none)) ]
-runs_may held before now (Says x) end r =
-    elim r [ inl said ↦ inl (x, refl, ap outcome_end said) | inr none ↦ inr (inr (ap outcome_end none)) ]
 runs_may held before now (Reads name limit next) end r =
     elim r [
       | inl none ↦ inr (inr (ap outcome_end none))
@@ -110,7 +106,6 @@ told_is Q limit file (Some bytes) is q = subst Q (sym is) q
 comes_replies : (held : List ℕ → Option (List ℕ)) (These : List ℕ → Type 0) → ((name : List ℕ) → These name → IsSome (held name))
     → (t : Tree Reply) (r : Reply) → Asks These t → Comes held t r → Replies held t r
 comes_replies held These told (Gives x) r asked comes = comes
-comes_replies held These told (Says x) r asked comes = comes
 comes_replies held These told (Reads name limit next) r asked comes =
     told_and (λ file. Replies held (next file) r) limit comes.0 (held name) (told name asked.0) comes.1
     (comes_replies held These told (next comes.0) r (asked.1 comes.0) comes.2)
@@ -120,7 +115,6 @@ comes_replies held These told (Picks P next) r asked comes =
 -- there is one answer
 comes_same : (held : List ℕ → Option (List ℕ)) (t : Tree Reply) (r answer : Reply) → Comes held t r → Replies held t answer → r ≡ answer
 comes_same held (Gives x) r answer comes replies = sym comes ∙ replies
-comes_same held (Says x) r answer comes replies = sym comes ∙ replies
 comes_same held (Reads name limit next) r answer comes replies =
     comes_same held (next comes.0) r answer comes.2 (told_is (λ file. Replies held (next file) answer) limit comes.0 (held name) comes.1 replies)
 comes_same held (Picks P next) r answer comes replies =
@@ -250,6 +244,34 @@ module _ (held : List ℕ → Option (List ℕ)) (before now : List ℕ → ℕ)
         ]
       ]
 
+  memory_of : (asked : Option Shape) (told : Outcome) → May asked held before now told → Reaches out err told status → status ≡ Status.Memory
+      → MemoryCause out err
+  memory_of None told may reaches is =
+      elim reaches [
+        | inl put ↦ absurd (let e : Status.Usage ≡ Status.Memory = sym (ap (λ o. o.status) may) ∙ sym put.0 ∙ is in cc)
+        | inr other ↦ elim other [
+          | inl failed ↦ absurd (let e : Status.WriteFault ≡ Status.Memory = sym failed.0 ∙ is in cc)
+          | inr none ↦ inl (none.1, none.2)
+        ]
+      ]
+  memory_of (Some s) told may reaches is =
+      elim reaches [
+        | inl put ↦ elim may [
+          | inl says ↦ absurd ((verdict says.0.verdict).memory (sym (ap (λ o. o.status) says.2) ∙ sym put.0 ∙ is))
+          | inr rest ↦ elim rest [
+            | inl failed ↦ absurd (let e : Status.ReadFault ≡ Status.Memory = sym (ap (λ o. o.status) failed.3) ∙ sym put.0 ∙ is in cc)
+            | inr none ↦ inr (
+              subst (λ o. Appends out.told_before out.told_now o.out) none put.1,
+              subst (λ o. Appends err.told_before err.told_now o.err) none put.2,
+            )
+          ]
+        ]
+        | inr other ↦ elim other [
+          | inl failed ↦ absurd (let e : Status.WriteFault ≡ Status.Memory = sym failed.0 ∙ is in cc)
+          | inr none ↦ inl (none.1, none.2)
+        ]
+      ]
+
   -- a count that stood still didn't rise
   still : {a b : ℕ} → StoodStill a b → Rose a b → ⊥
   still stood rose = omega (arith, stood, rose)
@@ -257,8 +279,12 @@ module _ (held : List ℕ → Option (List ℕ)) (before now : List ℕ → ℕ)
   no_write_fault : StoodStill out.faults_before out.faults_now → StoodStill err.faults_before err.faults_now → Rose out.faults_before out.faults_now ⊎ Rose err.faults_before err.faults_now → ⊥
   no_write_fault on_out on_err rose = elim rose [ inl r ↦ still on_out r | inr r ↦ still on_err r ]
 
-  completes_of : (asked : Option Shape) → Answers asked held before now out err status → Completes asked held before now out err status
-  completes_of asked answers a is files on_out on_err =
+  -- the status is that of an answer, where no count rose
+  status_of_answer : (asked : Option Shape) → Answers asked held before now out err status → (a : Outcome) → IsAnswer asked held a
+      → ((name : List ℕ) → Names asked name → StoodStill (before name) (now name))
+      → StoodStill out.faults_before out.faults_now → StoodStill err.faults_before err.faults_now
+      → (status ≡ a.status) ⊎ (status ≡ Status.Memory)
+  status_of_answer asked answers a is files on_out on_err =
       elim (answers a is) [
         | inl reaches ↦ elim reaches [
           | inl put ↦ inl put.0
@@ -272,6 +298,11 @@ module _ (held : List ℕ → Option (List ℕ)) (before now : List ℕ → ℕ)
           ]
         ]
       ]
+
+  completes_of : SomeJudgement → (asked : Option Shape) → Answers asked held before now out err status → Completes asked held before now out err status
+  completes_of law asked answers files on_out on_err =
+      let a = some_answer law held asked (λ name named. (files name named).0) in
+      (a.0, a.1, status_of_answer asked answers a.0 a.1 (λ name named. (files name named).1) on_out on_err)
 
 module _ {asked : Option Shape} {held : List ℕ → Option (List ℕ)} {before now : List ℕ → ℕ} {out err : Stream} {status : Status} (t : Tells asked held before now out err status) where
   pub answers : Answers asked held before now out err status
@@ -292,8 +323,11 @@ module _ {asked : Option Shape} {held : List ℕ → Option (List ℕ)} {before 
   pub write_cause : status ≡ Status.WriteFault → Rose out.faults_before out.faults_now ⊎ Rose err.faults_before err.faults_now
   write_cause = write_of held before now out err status asked t.told t.may t.reaches
 
-  pub completes : Completes asked held before now out err status
-  completes = completes_of held before now out err status asked answers
+  pub memory_cause : status ≡ Status.Memory → MemoryCause out err
+  memory_cause = memory_of held before now out err status asked t.told t.may t.reaches
+
+  pub completes : SomeJudgement → Completes asked held before now out err status
+  completes law = completes_of held before now out err status law asked answers
 
 -- ---- what was told
 

@@ -34,4 +34,4 @@ module _ (one : OneRefusal) (none : NoRefusal) (text : List ℕ) where
 
   -- the first refusal is
   pub refused : (r : Refusal) → IsRefused text (Error.Refused r) → IsOnly (IsJudged (Some text)) (Refused r)
-  refused r is = record { holds = is.0; only = only_refused r is.0 }
+  refused r is = record { holds = is; only = only_refused r is }

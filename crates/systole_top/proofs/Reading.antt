@@ -3,7 +3,7 @@ use Rattle.std.proofs.Common.{◌≡◌, ◌≤◌, ℕ, List, Option, Some, IfS
 use Rattle.std.proofs.lemmas.Bool.Decides.{nat_tests}
 use Rattle.std.proofs.lemmas.Option.{IfSome_then}
 use Rattle.systole_top.specs.Tree.{Gives, Reads, within}
-use Rattle.systole_top.specs.Runs.{Gave, Steps}
+use Rattle.systole_top.specs.bodies.Runs.{Gave, Steps}
 
 pub within-whole : (limit : ℕ) (file : List ℕ) → length file ≤ limit → within limit file ≡ Some file
 within-whole limit file short = grind (arith, nat_tests)

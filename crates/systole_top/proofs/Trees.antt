@@ -2,9 +2,9 @@
 use Rattle.std.proofs.Common.{◌≡◌, ◌≤◌, ℕ, List, Option, refl, ap, ◌∙◌, subst, inl, inr, arith}
 use Rattle.sys_outside.specs.Fault.{Rose}
 use Rattle.systole_top.specs.Texts.{cannot_read}
-use Rattle.systole_top.specs.Tree.{Tree, Gives, Says, Reads, Picks, then_}
-use Rattle.systole_top.specs.Runs.{Halt, Said, Unread, NoMemory, End, Gave, Stopped, Runs, Shows, Steps}
-use Rattle.systole_top.specs.Stops.{halt_of}
+use Rattle.systole_top.specs.Tree.{Tree, Gives, Reads, Picks, then_}
+use Rattle.systole_top.specs.bodies.Runs.{Halt, Unread, NoMemory, End, Gave, Stopped, Runs, Shows, Steps}
+use Rattle.systole_top.specs.bodies.Stops.{halt_of}
 use Rattle.systole_top.specs.declared.answer.Stop.{Stop}
 
 -- a file whose count rose in a part of a step, which the rest of the step didn't lower
@@ -14,7 +14,6 @@ rose_within from to rose = omega arith
 -- want of memory may end every step
 pub runs_no_memory : {A : Type 0} (held : List ℕ → Option (List ℕ)) (before now : List ℕ → ℕ) (t : Tree A) → Runs held before now t (Stopped NoMemory)
 runs_no_memory held before now (Gives x) = inr refl
-runs_no_memory held before now (Says r) = inr refl
 runs_no_memory held before now (Reads name limit next) = inl refl
 runs_no_memory held before now (Picks P next) = inl refl
 
@@ -22,7 +21,6 @@ runs_no_memory held before now (Picks P next) = inl refl
 pub runs_wider : {A : Type 0} (held : List ℕ → Option (List ℕ)) (b0 b1 b2 b3 : List ℕ → ℕ) → ((name : List ℕ) → b0 name ≤ b1 name) → ((name : List ℕ) → b2 name ≤ b3 name)
     → (t : Tree A) (end : End A) → Runs held b1 b2 t end → Runs held b0 b3 t end
 runs_wider held b0 b1 b2 b3 from to (Gives x) end r = r
-runs_wider held b0 b1 b2 b3 from to (Says s) end r = r
 runs_wider held b0 b1 b2 b3 from to (Reads name limit next) end r =
     elim r [
       | inl none ↦ inl none
@@ -46,7 +44,6 @@ runs_then held before now f (Gives y) x end r after =
       | inl gave ↦ (let same : x ≡ y = cc in subst (λ z. Runs held before now (f z) end) same after)
       | inr none ↦ absurd (cc)
     ]
-runs_then held before now f (Says s) x end r after = elim r [ inl said ↦ absurd (cc) | inr none ↦ absurd (cc) ]
 runs_then held before now f (Reads name limit next) x end r after =
     elim r [
       | inl none ↦ absurd (cc)
@@ -70,11 +67,6 @@ runs_stop held before now f (Gives y) halt r =
       | inl gave ↦ absurd (cc)
       | inr none ↦ (let same : NoMemory ≡ halt = cc in subst (λ h. Runs held before now (f y) (Stopped h)) same (runs_no_memory held before now (f y)))
     ]
-runs_stop held before now f (Says s) halt r =
-    elim r [
-      | inl said ↦ inl (let same : halt ≡ Said s = cc in ap (λ h. Stopped h) same)
-      | inr none ↦ inr (let same : halt ≡ NoMemory = cc in ap (λ h. Stopped h) same)
-    ]
 runs_stop held before now f (Reads name limit next) halt r =
     elim r [
       | inl none ↦ inl (let same : halt ≡ NoMemory = cc in ap (λ h. Stopped h) same)
@@ -92,7 +84,6 @@ runs_stop held before now f (Picks P next) halt r =
 -- a step that reads no file goes so over every shelf
 pub runs_shows : {A : Type 0} (held : List ℕ → Option (List ℕ)) (before now : List ℕ → ℕ) (t : Tree A) (end : End A) → Shows t end → Runs held before now t end
 runs_shows held before now (Gives x) end s = s
-runs_shows held before now (Says r) end s = s
 runs_shows held before now (Reads name limit next) end s = inl s
 runs_shows held before now (Picks P next) end s =
     elim s [

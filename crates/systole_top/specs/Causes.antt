@@ -1,6 +1,6 @@
--- What the top call promises.
+-- Why the top call answers as it does.
 use Rattle.std.specs.Prelude.{ℕ, ◌≡◌, ◌⊎◌, ◌≢◌, ◌-◌, ◌^◌, ◌<◌, List, [], Option, None, Some, IsSome, IfSome, Contains}
-use Rattle.std.specs.Io.KnownBytes.{Appends}
+use Rattle.std.specs.Io.KnownBytes.{Appends, Keeps}
 use Rattle.accept.specs.FirstRefusal.{Accepts, FirstRefusal}
 use Rattle.refusals.specs.Explanations.{explanation}
 use Rattle.refusals.specs.declared.refusal.Refusal.{Refusal}
@@ -9,15 +9,15 @@ use Rattle.systole_top.specs.Commands.{tree_of, files_of}
 use Rattle.systole_top.specs.Reply.{Reply, Outcome, status_of, outcome_of, usage, unread, no_memory}
 use Rattle.systole_top.specs.Shape.{Shape, Check, Explain}
 use Rattle.systole_top.specs.Sides.{Stream, Reaches}
-use Rattle.systole_top.specs.Texts.{cannot_read, accepted_line, refusal_line}
+use Rattle.systole_top.specs.Texts.{cannot_read, accepted_line, out_of_memory, refusal_line}
 use Rattle.systole_top.specs.Tree.{Replies, Comes, Tries}
 use Rattle.systole_top.specs.declared.answer.Verdict.{Verdict}
 use Rattle.systole_top.specs.declared.status.Status.{Status}
 
 -- ---- the answer
 
--- The answer to words of this shape, or of none, over files whose bytes are told. There is no answer where a file that is
--- wanted isn't told.
+-- The answer to words of this shape, or of none, over files whose bytes are told. There is no answer where a file
+-- that is wanted isn't told.
 abbrev pub IsAnswer : Option Shape → (List ℕ → Option (List ℕ)) → Outcome → Type 0
 IsAnswer None held a = a ≡ usage
 IsAnswer (Some s) held a = (r : Reply) × Replies held (tree_of s) r × (a ≡ outcome_of r)
@@ -35,7 +35,8 @@ TriesFile None held name = ⊥
 TriesFile (Some s) held name = Tries held (tree_of s) name
 
 -- A file that the words name can't be read, after all that comes before it passed: its count of faults rose.
-pub record IsUnread (asked : Option Shape) (held : List ℕ → Option (List ℕ)) (before now : List ℕ → ℕ) (name : List ℕ) : Type 0 where
+pub record IsUnread (asked : Option Shape) (held : List ℕ → Option (List ℕ)) (before now : List ℕ → ℕ)
+    (name : List ℕ) : Type 0 where
   pub named : Names asked name
   pub tried : TriesFile asked held name
   pub rose : Rose (before name) (now name)
@@ -50,14 +51,16 @@ May (Some s) held before now t =
     ⊎ (t ≡ no_memory)
 
 -- The call told one outcome that it may tell, and it reached the sinks.
-pub record Tells (asked : Option Shape) (held : List ℕ → Option (List ℕ)) (before now : List ℕ → ℕ) (out err : Stream) (status : Status) : Type 0 where
+pub record Tells (asked : Option Shape) (held : List ℕ → Option (List ℕ)) (before now : List ℕ → ℕ)
+    (out err : Stream) (status : Status) : Type 0 where
   pub told : Outcome
   pub may : May asked held before now told
   pub reaches : Reaches out err told status
 
--- Where the words have an answer over the told files, it reached the sinks; or a file couldn't be read, or memory ran out,
--- and that did.
-abbrev pub Answers : Option Shape → (List ℕ → Option (List ℕ)) → (List ℕ → ℕ) → (List ℕ → ℕ) → Stream → Stream → Status → Type 0
+-- Where the words have an answer over the told files, it reached the sinks; or a file couldn't be read, or memory ran
+-- out, and that did.
+abbrev pub Answers : Option Shape → (List ℕ → Option (List ℕ)) → (List ℕ → ℕ) → (List ℕ → ℕ) → Stream → Stream → Status
+    → Type 0
 Answers asked held before now out err status =
     (a : Outcome) → IsAnswer asked held a
     → Reaches out err a status
@@ -68,28 +71,33 @@ Answers asked held before now out err status =
 abbrev pub Judges : Option Shape → (List ℕ → Option (List ℕ)) → Stream → Stream → Status → Type 0
 Judges asked held out err status =
     (v : Verdict) → status ≡ status_of v → ((name : List ℕ) → Names asked name → IsSome (held name))
-    → (a : Outcome) × IsAnswer asked held a × (a.status ≡ status) × Appends out.told_before out.told_now a.out × Appends err.told_before err.told_now a.err
+    → (a : Outcome) × IsAnswer asked held a × (a.status ≡ status)
+    × Appends out.told_before out.told_now a.out × Appends err.told_before err.told_now a.err
 
 -- The status is this one; or a file couldn't be read, a put failed, or memory ran out.
 abbrev pub IsOrFault : Status → Status → Type 0
 IsOrFault wanted status =
     (status ≡ wanted) ⊎ (status ≡ Status.ReadFault) ⊎ (status ≡ Status.WriteFault) ⊎ (status ≡ Status.Memory)
 
--- What is said of a text: Done and `accepted` exactly where the text has no refusal, Refused and these bytes on each side for the first
--- refusal exactly where it has one, but for faults.
-pub record IsChecked (on_out on_err : Refusal → List ℕ) (text : List ℕ) (out err : Stream) (status : Status) : Type 0 where
-  pub done : status ≡ Status.Done → Accepts text × Appends out.told_before out.told_now accepted_line × Appends err.told_before err.told_now []
-  pub refused : status ≡ Status.Refused
-      → (r : Refusal) × FirstRefusal text r × Appends out.told_before out.told_now (on_out r) × Appends err.told_before err.told_now (on_err r)
+-- What is said of a text: Done and `accepted` exactly where the text has no refusal, Refused and these bytes on each
+-- side for the first refusal exactly where it has one, but for faults.
+pub record IsChecked (on_out on_err : Refusal → List ℕ) (text : List ℕ) (out err : Stream) (status : Status)
+    : Type 0 where
+  pub done : status ≡ Status.Done
+      → Accepts text × Appends out.told_before out.told_now accepted_line × Appends err.told_before err.told_now []
+  pub refused : status ≡ Status.Refused → (r : Refusal) × FirstRefusal text r
+      × Appends out.told_before out.told_now (on_out r) × Appends err.told_before err.told_now (on_err r)
   pub accepted : Accepts text → IsOrFault Status.Done status
   pub first : (r : Refusal) → FirstRefusal text r → IsOrFault Status.Refused status
 
--- Where the words are `check F` or `explain F` and the file F is told, its text is checked: of the first refusal, `check` puts the line on
--- standard error, and `explain` the explanation on standard output.
+-- Where the words are `check F` or `explain F` and the file F is told, its text is checked: `check` puts the line of
+-- the first refusal on standard error, and `explain` its explanation on standard output.
 abbrev pub Checks : Option Shape → (List ℕ → Option (List ℕ)) → Stream → Stream → Status → Type 0
 Checks None held out err status = Unit {0}
-Checks (Some (Check file)) held out err status = IfSome (held file) (λ text. IsChecked (λ r. []) refusal_line text out err status)
-Checks (Some (Explain file)) held out err status = IfSome (held file) (λ text. IsChecked explanation (λ r. []) text out err status)
+Checks (Some (Check file)) held out err status =
+    IfSome (held file) (λ text. IsChecked (λ r. []) refusal_line text out err status)
+Checks (Some (Explain file)) held out err status =
+    IfSome (held file) (λ text. IsChecked explanation (λ r. []) text out err status)
 
 -- Words with no shape are a faulty command line, unless a put failed or memory ran out; others never are.
 abbrev pub UsageCause : Option Shape → Status → Type 0
@@ -97,18 +105,27 @@ UsageCause None status = (status ≡ Status.Usage) ⊎ (status ≡ Status.WriteF
 UsageCause (Some s) status = status ≢ Status.Usage
 
 -- A file that the words name couldn't be read, and the line on it is all that was put.
-abbrev pub ReadCause : Option Shape → (List ℕ → Option (List ℕ)) → (List ℕ → ℕ) → (List ℕ → ℕ) → Stream → Stream → Type 0
+abbrev pub ReadCause : Option Shape → (List ℕ → Option (List ℕ)) → (List ℕ → ℕ) → (List ℕ → ℕ) → Stream → Stream
+    → Type 0
 ReadCause asked held before now out err =
-    (name : List ℕ) × IsUnread asked held before now name × Appends out.told_before out.told_now [] × Appends err.told_before err.told_now (cannot_read name)
+    (name : List ℕ) × IsUnread asked held before now name
+    × Appends out.told_before out.told_now [] × Appends err.told_before err.told_now (cannot_read name)
+
+-- Memory ran out: nothing was put, or the line on it was all that was put.
+abbrev pub MemoryCause : Stream → Stream → Type 0
+MemoryCause out err =
+    (Keeps out.told_before out.told_now × Keeps err.told_before err.told_now)
+    ⊎ (Appends out.told_before out.told_now [] × Appends err.told_before err.told_now out_of_memory)
 
 -- A count of faults stood still below its last value.
 abbrev pub StoodStill : ℕ → ℕ → Type 0
 StoodStill before now = (now ≡ before) × (before < 2 ^ 64 - 1)
 
--- Where no count of the words' files or of the sinks rose, the status is the answer's, or memory ran out.
-abbrev pub Completes : Option Shape → (List ℕ → Option (List ℕ)) → (List ℕ → ℕ) → (List ℕ → ℕ) → Stream → Stream → Status → Type 0
+-- Where the files that the words name are told, and no count of these files or of the sinks rose, there is an answer,
+-- and the status is the answer's, or memory ran out.
+abbrev pub Completes : Option Shape → (List ℕ → Option (List ℕ)) → (List ℕ → ℕ) → (List ℕ → ℕ) → Stream → Stream → Status
+    → Type 0
 Completes asked held before now out err status =
-    (a : Outcome) → IsAnswer asked held a
-    → ((name : List ℕ) → Names asked name → StoodStill (before name) (now name))
+    ((name : List ℕ) → Names asked name → IsSome (held name) × StoodStill (before name) (now name))
     → StoodStill out.faults_before out.faults_now → StoodStill err.faults_before err.faults_now
-    → (status ≡ a.status) ⊎ (status ≡ Status.Memory)
+    → (a : Outcome) × IsAnswer asked held a × ((status ≡ a.status) ⊎ (status ≡ Status.Memory))

@@ -5,11 +5,10 @@ use Rattle.systole_top.specs.Judgement.{IsJudged}
 use Rattle.systole_top.specs.Reply.{Reply}
 use Rattle.systole_top.specs.Shape.{Shape, Check, Explain}
 use Rattle.systole_top.specs.Texts.{accepted_line, refusal_line}
-use Rattle.systole_top.specs.Tree.{Tree, Gives, Says, Reads, Picks, then_}
+use Rattle.systole_top.specs.Tree.{Tree, Gives, Reads, Picks, then_}
 use Rattle.systole_top.specs.declared.answer.Verdict.TheVariants as Verdict
 use Rattle.systole_top.specs.declared.judgement.Judgement.{Judgement}
-use Rattle.accept.specs.declared.building.TheConstants.{SOURCE_BYTES}
-use Rattle.refusals.specs.declared.refusal.Refusal.{Refusal}
+use Rattle.sys_base.specs.declared.limits.TheConstants.{SOURCE_BYTES}
 
 -- ---- sources
 
@@ -20,36 +19,29 @@ judgement_of file = Picks (IsJudged file) Gives
 abbrev pub judged : List ℕ → Tree Judgement
 judged file = then_ (Reads file SOURCE_BYTES Gives) judgement_of
 
--- the refusal of a source, in one line
-abbrev pub refused_reply : Refusal → Reply
-refused_reply refusal = record { verdict = Verdict.Refused; out = []; err = refusal_line refusal }
-
--- only an accepted source passes
-abbrev pub passes : Judgement → Tree (Unit {0})
-passes Judgement.Accepted = Gives tt
-passes (Judgement.Refused refusal) = Says (refused_reply refusal)
-
-abbrev pub accepted : List ℕ → Tree (Unit {0})
-accepted file = then_ (judged file) passes
-
 -- ---- commands
 
 -- an accepted source
 abbrev pub accepted_reply : Reply
 accepted_reply = record { verdict = Verdict.Done; out = accepted_line; err = [] }
 
--- the refusal of a source, with its explanation, which was asked for
-abbrev pub explained_reply : Refusal → Reply
-explained_reply refusal = record { verdict = Verdict.Refused; out = explanation refusal; err = [] }
+-- a refused source, with these bytes on standard output and on standard error
+abbrev pub refused_reply : List ℕ → List ℕ → Reply
+refused_reply out err = record { verdict = Verdict.Refused; out = out; err = err }
 
--- a judgement, which is explained where it is a refusal
+-- the answer of `check`: the line of a refusal goes to standard error
+abbrev pub check_reply : Judgement → Reply
+check_reply Judgement.Accepted = accepted_reply
+check_reply (Judgement.Refused refusal) = refused_reply [] (refusal_line refusal)
+
+-- the answer of `explain`: the explanation of a refusal was asked for, and goes to standard output
 abbrev pub explain_reply : Judgement → Reply
 explain_reply Judgement.Accepted = accepted_reply
-explain_reply (Judgement.Refused refusal) = explained_reply refusal
+explain_reply (Judgement.Refused refusal) = refused_reply (explanation refusal) []
 
 -- what a command reads, and what it says
 abbrev pub tree_of : Shape → Tree Reply
-tree_of (Check file) = then_ (accepted file) (λ _. Gives accepted_reply)
+tree_of (Check file) = then_ (judged file) (λ judgement. Gives (check_reply judgement))
 tree_of (Explain file) = then_ (judged file) (λ judgement. Gives (explain_reply judgement))
 
 -- the files that a command names

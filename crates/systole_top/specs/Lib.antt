@@ -1,11 +1,11 @@
+pub mod bodies
 pub mod Judgement
 pub mod Only
 pub mod Texts
 pub mod Shape
 pub mod Reply
 pub mod Tree
-pub mod Runs
-pub mod Stops
 pub mod Commands
 pub mod Sides
 pub mod Causes
+pub mod Promises

@@ -28,8 +28,6 @@ pub struct Answer {
 /// Why a command goes no further.
 #[derive(Drop)]
 pub enum Stop {
-    /// The answer is there.
-    Says(Answer),
     /// A file couldn't be read; the line on it.
     Unread(Vec<u8>),
     /// Memory ran out.

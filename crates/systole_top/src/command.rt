@@ -1,7 +1,7 @@
 ghost use Rattle.systole_top.specs.Commands.{tree_of};
-ghost use Rattle.systole_top.specs.Runs.{Steps};
+ghost use Rattle.systole_top.specs.bodies.Runs.{Steps};
 ghost use Rattle.systole_top.specs.Shape.{seen};
-ghost use Rattle.systole_top.specs.Stops.{ended, reply_of};
+ghost use Rattle.systole_top.specs.bodies.Stops.{ended, reply_of};
 
 use crate::answer::{Answer, Stop};
 use crate::check::check;

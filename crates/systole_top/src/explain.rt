@@ -1,18 +1,13 @@
-ghost use Rattle.std.specs.Prelude.{◌≡◌, IfOk, IsTrue};
-ghost use Rattle.refusals.specs.Texts.{is_kind_known};
-ghost use Rattle.systole_top.specs.Commands.{explain_reply, explained_reply, tree_of};
-ghost use Rattle.systole_top.specs.Judgement.{HasLine};
-ghost use Rattle.systole_top.specs.Runs.{Steps, Shows};
+ghost use Rattle.systole_top.specs.Commands.{explain_reply, tree_of};
+ghost use Rattle.systole_top.specs.bodies.Runs.{Steps, Shows};
 ghost use Rattle.systole_top.specs.Shape.{Explain};
-ghost use Rattle.systole_top.specs.Stops.{ended, reply_of};
+ghost use Rattle.systole_top.specs.bodies.Stops.{ended, reply_of};
 ghost use Rattle.systole_top.specs.Tree.{Gives};
 
 use crate::answer::{Answer, Side, Stop, Verdict};
 use crate::check::accepted_reply;
 use crate::judgement::{Judgement, judged};
-use refusals::Refusal;
 use std::alloc::Global;
-use sys_base::Memory;
 use sys_outside::Shelf;
 
 /// `explain F`: whether the source is accepted, and the explanation of its first refusal where it isn't.
@@ -26,22 +21,14 @@ pub fn explain<S: Shelf>(alloc: Global, shelf: &mut S, file: &str) -> Result<Ans
 }
 
 fn explain_reply(alloc: Global, judgement: Judgement) -> Result<Answer, Stop>
-    requires { HasLine judgement }
     ensures { Shows (Gives (explain_reply judgement)) (ended reply_of result) }
 {
     match judgement {
         Judgement::Accepted => accepted_reply(alloc),
-        Judgement::Refused(refusal) => Ok(explained(alloc, &refusal)?),
+        Judgement::Refused(refusal) => Ok(Answer {
+            verdict: Verdict::Refused,
+            side: Side::Out,
+            text: refusals::explain(alloc, &refusal)?,
+        }),
     }
-}
-
-fn explained(alloc: Global, refusal: &Refusal) -> Result<Answer, Memory>
-    requires { IsTrue (is_kind_known refusal.now) }
-    ensures { IfOk result (λ a. reply_of a ≡ explained_reply refusal.now) }
-{
-    Ok(Answer {
-        verdict: Verdict::Refused,
-        side: Side::Out,
-        text: refusals::explain(alloc, refusal)?,
-    })
 }

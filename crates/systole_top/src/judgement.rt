@@ -1,18 +1,17 @@
 ghost use Rattle.std.specs.Prelude.{◌≡◌, Some, IfOk};
 ghost use Rattle.std.specs.Option.{option_map};
 ghost use Rattle.systole_top.specs.Commands.{judgement_of, judged};
-ghost use Rattle.systole_top.specs.Judgement.{IsJudged, HasLine};
+ghost use Rattle.systole_top.specs.Judgement.{IsJudged};
 ghost use Rattle.systole_top.specs.Only.{IsOnly};
-ghost use Rattle.systole_top.specs.Runs.{Steps, Shows};
-ghost use Rattle.systole_top.specs.Stops.{bytes_of, ended};
+ghost use Rattle.systole_top.specs.bodies.Runs.{Steps, Shows};
+ghost use Rattle.systole_top.specs.bodies.Stops.{bytes_of, ended};
 
 use crate::answer::Stop;
 use crate::read::read_file;
-use accept::{AcceptError, SOURCE_BYTES, build, one_first_refusal};
+use accept::{AcceptError, build, one_first_refusal};
 use refusals::Refusal;
 use std::alloc::Global;
-use std::mem::forget;
-use sys_base::Memory;
+use sys_base::{Memory, SOURCE_BYTES};
 use sys_outside::Shelf;
 
 /// What a source is found to be.
@@ -27,17 +26,15 @@ pub enum Judgement {
 /// Reads a source and judges it.
 #[tactic(auto, using(crate::proofs::Trees::step_stop))]
 pub fn judged<S: Shelf>(alloc: Global, shelf: &mut S, file: &str) -> Result<Judgement, Stop>
-    ensures steps { Steps (S.held shelf.old) (S.held shelf.new) (S.faults shelf.old) (S.faults shelf.new)
+    ensures { Steps (S.held shelf.old) (S.held shelf.new) (S.faults shelf.old) (S.faults shelf.new)
         (judged file.now) (ended (λ x. x) result) }
-    ensures line { IfOk result HasLine }
 {
     let text = read_file(alloc, shelf, file, SOURCE_BYTES)?;
     judgement_of(alloc, text)
 }
 
 fn judgement_of(alloc: Global, text: Option<Vec<u8>>) -> Result<Judgement, Stop>
-    ensures shows { Shows (judgement_of (option_map bytes_of text)) (ended (λ x. x) result) }
-    ensures line { IfOk result HasLine }
+    ensures { Shows (judgement_of (option_map bytes_of text)) (ended (λ x. x) result) }
 {
     match text {
         None => Ok(Judgement::Refused(Refusal::LongSource)),
@@ -47,16 +44,11 @@ fn judgement_of(alloc: Global, text: Option<Vec<u8>>) -> Result<Judgement, Stop>
 
 /// Accepts a source without a refusal, and else says its first one.
 fn judge(alloc: Global, text: &[u8]) -> Result<Judgement, Memory>
-    ensures judged { IfOk result (IsOnly (IsJudged (Some text.now))) }
-    ensures line { IfOk result HasLine }
+    ensures { IfOk result (IsOnly (IsJudged (Some text.now))) }
 {
     one_first_refusal();
     match build(alloc, text) {
-        Ok(built) => {
-            // The program ends soon, and its memory with it: to free the many small parts one by one would take longer.
-            forget(built);
-            Ok(Judgement::Accepted)
-        }
+        Ok(_) => Ok(Judgement::Accepted),
         Err(AcceptError::Refused(refusal)) => Ok(Judgement::Refused(refusal)),
         Err(AcceptError::Memory) => Err(Memory),
     }

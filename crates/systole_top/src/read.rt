@@ -1,7 +1,7 @@
 ghost use Rattle.std.specs.Prelude.{◌≡◌, ◌^◌, ◌<◌, IfOk};
 ghost use Rattle.std.specs.Option.{option_map};
-ghost use Rattle.systole_top.specs.Runs.{Steps};
-ghost use Rattle.systole_top.specs.Stops.{bytes_of, ended};
+ghost use Rattle.systole_top.specs.bodies.Runs.{Steps};
+ghost use Rattle.systole_top.specs.bodies.Stops.{bytes_of, ended};
 ghost use Rattle.systole_top.specs.Texts.{cannot_read};
 ghost use Rattle.systole_top.specs.Tree.{Gives, Reads};
 

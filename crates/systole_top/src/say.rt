@@ -1,7 +1,7 @@
 ghost use Rattle.std.specs.Prelude.{◌≡◌};
 ghost use Rattle.systole_top.specs.Reply.{outcome_of, status_of};
 ghost use Rattle.systole_top.specs.Sides.{PutsOn, Reaches, stream};
-ghost use Rattle.systole_top.specs.Stops.{reply_of, told_by};
+ghost use Rattle.systole_top.specs.bodies.Stops.{reply_of, told_by};
 ghost use Rattle.systole_top.specs.Texts.{usage_line, out_of_memory};
 
 use crate::answer::{Answer, Side, Stop, Verdict};
@@ -16,7 +16,6 @@ pub fn say<O: Sink, E: Sink>(answer: Result<Answer, Stop>, out: &mut O, err: &mu
 {
     match answer {
         Ok(answer) => say_answer(&answer, out, err),
-        Err(Stop::Says(answer)) => say_answer(&answer, out, err),
         Err(Stop::Unread(line)) => put(err, &line, Status::ReadFault),
         Err(Stop::Memory) => say_no_memory(err),
     }

@@ -1,6 +1,6 @@
-ghost use Rattle.std.specs.Prelude.{◌≡◌, ◌⊎◌, map, string_bytes};
-ghost use Rattle.sys_outside.specs.Fault.{Rose};
-ghost use Rattle.systole_top.specs.Causes.{Tells, Answers, Judges, Checks, UsageCause, ReadCause, Completes};
+ghost use Rattle.std.specs.Prelude.{map, string_bytes};
+ghost use Rattle.systole_top.specs.Causes.{Tells};
+ghost use Rattle.systole_top.specs.Promises.{Promises, call};
 ghost use Rattle.systole_top.specs.Shape.{shape};
 ghost use Rattle.systole_top.specs.Sides.{stream};
 
@@ -8,14 +8,14 @@ use crate::command::answer_command;
 use crate::say::{say, say_usage};
 use crate::status::Status;
 use crate::words::read_words;
+use accept::accepted_or_refused;
 use std::alloc::Global;
 use sys_outside::{Shelf, Sink};
 
 /// Answers the words of a command line: reads the files that they name from the shelf, and puts what there is to say on
 /// standard output or on standard error, in one piece.
 ///
-/// What is built of an accepted source isn't freed: the program ends soon after. A process that calls this many times keeps that
-/// memory.
+/// What it promises of the whole call stands in `specs/Promises.antt`.
 pub fn systole<S: Shelf, O: Sink, E: Sink>(
     alloc: Global,
     words: &[String],
@@ -23,29 +23,12 @@ pub fn systole<S: Shelf, O: Sink, E: Sink>(
     out: &mut O,
     err: &mut E,
 ) -> Status
-    ensures tells { Tells (shape (map string_bytes words.now)) (S.held shelf.old) (S.faults shelf.old) (S.faults shelf.new)
+    ensures { Promises (call (shape (map string_bytes words.now))
+        (S.held shelf.old) (S.faults shelf.old) (S.faults shelf.new)
         (stream (O.taken out.old) (O.taken out.new) (O.faults out.old) (O.faults out.new))
-        (stream (E.taken err.old) (E.taken err.new) (E.faults err.old) (E.faults err.new)) result }
-    ensures answer { Answers (shape (map string_bytes words.now)) (S.held shelf.old) (S.faults shelf.old) (S.faults shelf.new)
-        (stream (O.taken out.old) (O.taken out.new) (O.faults out.old) (O.faults out.new))
-        (stream (E.taken err.old) (E.taken err.new) (E.faults err.old) (E.faults err.new)) result }
-    ensures judges { Judges (shape (map string_bytes words.now)) (S.held shelf.old)
-        (stream (O.taken out.old) (O.taken out.new) (O.faults out.old) (O.faults out.new))
-        (stream (E.taken err.old) (E.taken err.new) (E.faults err.old) (E.faults err.new)) result }
-    ensures checks { Checks (shape (map string_bytes words.now)) (S.held shelf.old)
-        (stream (O.taken out.old) (O.taken out.new) (O.faults out.old) (O.faults out.new))
-        (stream (E.taken err.old) (E.taken err.new) (E.faults err.old) (E.faults err.new)) result }
-    ensures usage { UsageCause (shape (map string_bytes words.now)) result }
-    ensures read { result ≡ Status.ReadFault →
-        ReadCause (shape (map string_bytes words.now)) (S.held shelf.old) (S.faults shelf.old) (S.faults shelf.new)
-        (stream (O.taken out.old) (O.taken out.new) (O.faults out.old) (O.faults out.new))
-        (stream (E.taken err.old) (E.taken err.new) (E.faults err.old) (E.faults err.new)) }
-    ensures write { result ≡ Status.WriteFault →
-        Rose (O.faults out.old) (O.faults out.new) ⊎ Rose (E.faults err.old) (E.faults err.new) }
-    ensures complete { Completes (shape (map string_bytes words.now)) (S.held shelf.old) (S.faults shelf.old) (S.faults shelf.new)
-        (stream (O.taken out.old) (O.taken out.new) (O.faults out.old) (O.faults out.new))
-        (stream (E.taken err.old) (E.taken err.new) (E.faults err.old) (E.faults err.new)) result }
+        (stream (E.taken err.old) (E.taken err.new) (E.faults err.old) (E.faults err.new)) result) }
 {
+    accepted_or_refused();
     tell(alloc, words, shelf, out, err)
 }
 

@@ -1,4 +1,4 @@
-use Rattle.systole_top.proofs.Clauses.{answers, judges, checks, usage_cause, read_cause, write_cause, completes}
+use Rattle.systole_top.proofs.Clauses.{answers, judges, checks, usage_cause, read_cause, write_cause, memory_cause, completes}
 use Rattle.systole_top.proofs.top.systole.Goals as goal
 
 pub returns : goal.returns
@@ -12,5 +12,6 @@ returns g c =
       usage = usage_cause told;
       read = read_cause told;
       write = write_cause told;
-      complete = completes told;
+      memory = memory_cause told;
+      complete = completes told c.accepted_or_refused.ensures;
     }

@@ -2,7 +2,7 @@
 use Rattle.std.specs.Prelude.{ℕ, List, [], Result, Ok, Err, Vec}
 use Rattle.std.specs.Global.{Global}
 use Rattle.systole_top.specs.Reply.{Reply, Outcome, outcome_of, unread, no_memory}
-use Rattle.systole_top.specs.Runs.{Halt, Said, Unread, NoMemory, End, Gave, Stopped}
+use Rattle.systole_top.specs.bodies.Runs.{Halt, Unread, NoMemory, End, Gave, Stopped}
 use Rattle.systole_top.specs.declared.answer.Side.{Side}
 use Rattle.systole_top.specs.declared.answer.Answer.{Answer}
 use Rattle.systole_top.specs.declared.answer.Stop.{Stop}
@@ -24,7 +24,6 @@ abbrev pub reply_of : Answer → Reply
 reply_of a = record { verdict = a.verdict; out = on_out a.side a.text.items; err = on_err a.side a.text.items }
 
 abbrev pub halt_of : Stop → Halt
-halt_of (Stop.Says answer) = Said (reply_of answer)
 halt_of (Stop.Unread line) = Unread line.items
 halt_of Stop.Memory = NoMemory
 
@@ -36,6 +35,5 @@ ended view (Err stop) = Stopped (halt_of stop)
 -- what a command's end tells
 abbrev pub told_by : Result Answer Stop → Outcome
 told_by (Ok answer) = outcome_of (reply_of answer)
-told_by (Err (Stop.Says answer)) = outcome_of (reply_of answer)
 told_by (Err (Stop.Unread line)) = unread line.items
 told_by (Err Stop.Memory) = no_memory

@@ -1,5 +1,0 @@
-use Rattle.systole_top.proofs.Trees.{step_shows}
-use Rattle.systole_top.proofs.check.accepted.Goals as goal
-
-pub returns : goal.returns
-returns g c = step_shows _ c.in_ok-judgement.ensures.steps c.passes.ensures

@@ -1,0 +1,3 @@
+-- Words of bodies and proofs. No public contract speaks of them.
+pub mod Runs
+pub mod Stops
