@@ -33,6 +33,9 @@ fn links(rt: HostRuntime) -> Result<(), Fail> {
     assert_eq!(rt; grid.cell(0, 2), Some(2));
     assert_eq!(rt; grid.link(1, Dir::E).ok_or("no link")?, 5);
     assert_eq!(rt; grid.neighbour(1, Dir::S), None);
+    let (cell, link) = (grid.cell_name(2), grid.link_name(5));
+    let names = format!(in rt.alloc(); "{cell} {link}")?;
+    assert_eq!(rt; names.as_str(), "0.2 0.1E");
     Ok(())
 }
 

@@ -1,5 +1,5 @@
-//! Tests of the public calls of the layers below `build`, as tables. They stand apart, since a crate with tests is proved
-//! twice.
+//! Tests of the public calls of the layers below `build`, as tables. They stand apart, since a crate with tests is
+//! proved twice.
 #![tactic(auto)]
 
 #[cfg(test)]

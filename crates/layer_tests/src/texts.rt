@@ -1,23 +1,29 @@
-ghost use Rattle.std.specs.Prelude.{IsTrue};
-ghost use Rattle.refusals.specs.Texts.{is_kind_known};
-
-use refusals::{
-    Refusal, Wait, again_text, cell_text, explain, link_text, nothing_left_text, text, wait_text,
-};
+use refusals::{Refusal, Twice, WalkLine, explain, text};
 use std::alloc::{AllocGlobal, Global};
 use std::process::Abort;
 use std::test::Fail;
-use sys_base::{Dir, Items, Limit, Name};
+use sys_base::{CellName, Dir, Items, Limit, LinkName, Name};
 
 fn name(alloc: Global, text: &[u8]) -> Result<Name, Fail> {
     let name = Name::new(alloc, text)?.ok_or("no name")?;
     Ok(name)
 }
 
+/// A cell in row 0.
+fn cell(col: u8) -> CellName {
+    CellName { row: 0, col }
+}
+
+/// The link from the cell 0.0 to the cell 0.1.
+fn east() -> LinkName {
+    LinkName {
+        cell: cell(0),
+        dir: Dir::E,
+    }
+}
+
 /// The refusal has this line.
-fn expect<R: Abort + AllocGlobal>(rt: &R, refusal: Refusal, line: &str) -> Result<(), Fail>
-    requires { IsTrue (is_kind_known refusal) }
-{
+fn expect<R: Abort + AllocGlobal>(rt: &R, refusal: Refusal, line: &str) -> Result<(), Fail> {
     let text = text(rt.alloc(), &refusal)?;
     assert_eq!(rt; text.as_slice(), line.as_bytes());
     Ok(())
@@ -83,12 +89,19 @@ fn limits(rt: HostRuntime) -> Result<(), Fail> {
 #[test]
 fn declarations(rt: HostRuntime) -> Result<(), Fail> {
     let (alloc, line) = (rt.alloc(), 4);
-    let what = Items::from_slice(alloc, b"0.0E")?;
-    expect(
-        &rt,
-        Refusal::Twice { what, line },
-        "E11 line 4: 0.0E stands twice",
-    )?;
+    for (what, text) in [
+        (Twice::Link(east()), "E11 line 4: 0.0E stands twice"),
+        (
+            Twice::Cell(CellName { row: 15, col: 2 }),
+            "E11 line 4: 15.2 stands twice",
+        ),
+        (
+            Twice::Named(name(alloc, b"A")?),
+            "E11 line 4: A stands twice",
+        ),
+    ] {
+        expect(&rt, Refusal::Twice { what, line }, text)?;
+    }
     expect(
         &rt,
         Refusal::OutsideGrid { line },
@@ -134,7 +147,6 @@ fn statements(rt: HostRuntime) -> Result<(), Fail> {
         (2, "E17 line 5: A is an array"),
         (3, "E17 line 5: A is a counter"),
     ] {
-        prove!(found <= 3);
         let wrong = Refusal::WrongKind {
             name: name(alloc, b"A")?,
             found,
@@ -164,7 +176,7 @@ fn routes(rt: HostRuntime) -> Result<(), Fail> {
     )?;
     let twice = Refusal::RouteTwice {
         name: name(alloc, b"A")?,
-        link: Items::from_slice(alloc, b"0.0E")?,
+        link: east(),
         line,
     };
     expect(
@@ -201,7 +213,7 @@ fn programs(rt: HostRuntime) -> Result<(), Fail> {
     };
     expect(&rt, some, "E41 B has no label and another message has one")?;
     let few = Refusal::TooFew {
-        link: Items::from_slice(alloc, b"0.0E")?,
+        link: east(),
         label: 0,
         need: 2,
         has: 1,
@@ -222,9 +234,7 @@ fn programs(rt: HostRuntime) -> Result<(), Fail> {
 }
 
 /// The refusal has this explanation.
-fn explained<R: Abort + AllocGlobal>(rt: &R, refusal: Refusal, want: &str) -> Result<(), Fail>
-    requires { IsTrue (is_kind_known refusal) }
-{
+fn explained<R: Abort + AllocGlobal>(rt: &R, refusal: Refusal, want: &str) -> Result<(), Fail> {
     let text = explain(rt.alloc(), &refusal)?;
     assert_eq!(rt; text.as_slice(), want.as_bytes());
     Ok(())
@@ -233,26 +243,18 @@ fn explained<R: Abort + AllocGlobal>(rt: &R, refusal: Refusal, want: &str) -> Re
 #[test]
 fn a_walk_in_a_circle(rt: HostRuntime) -> Result<(), Fail> {
     let alloc = rt.alloc();
-    let writer = Wait {
-        row: 0,
-        col: 0,
-        writes: true,
-        partner_row: 0,
-        partner_col: 1,
-    };
-    let reader = Wait {
-        row: 0,
-        col: 1,
-        writes: false,
-        partner_row: 0,
-        partner_col: 0,
-    };
     let mut walk = Items::new(alloc);
-    let write = wait_text(alloc, writer, &name(alloc, b"A")?)?;
-    walk.push(Items::from_vec(write))?;
-    let read = wait_text(alloc, reader, &name(alloc, b"B")?)?;
-    walk.push(Items::from_vec(read))?;
-    walk.push(Items::from_vec(again_text(alloc, 0, 0)?))?;
+    walk.push(WalkLine::WaitsToWrite {
+        cell: cell(0),
+        message: name(alloc, b"A")?,
+        receiver: cell(1),
+    })?;
+    walk.push(WalkLine::WaitsToRead {
+        cell: cell(1),
+        message: name(alloc, b"B")?,
+        sender: cell(0),
+    })?;
+    walk.push(WalkLine::Again(cell(0)))?;
     explained(
         &rt,
         Refusal::Crossing { left: 4, walk },
@@ -263,17 +265,13 @@ fn a_walk_in_a_circle(rt: HostRuntime) -> Result<(), Fail> {
 #[test]
 fn a_walk_to_an_idle_cell(rt: HostRuntime) -> Result<(), Fail> {
     let alloc = rt.alloc();
-    let writer = Wait {
-        row: 0,
-        col: 0,
-        writes: true,
-        partner_row: 0,
-        partner_col: 1,
-    };
     let mut walk = Items::new(alloc);
-    let write = wait_text(alloc, writer, &name(alloc, b"A")?)?;
-    walk.push(Items::from_vec(write))?;
-    walk.push(Items::from_vec(nothing_left_text(alloc, 0, 1)?))?;
+    walk.push(WalkLine::WaitsToWrite {
+        cell: cell(0),
+        message: name(alloc, b"A")?,
+        receiver: cell(1),
+    })?;
+    walk.push(WalkLine::NothingLeft(cell(1)))?;
     explained(
         &rt,
         Refusal::Crossing { left: 1, walk },
@@ -288,7 +286,7 @@ fn a_group(rt: HostRuntime) -> Result<(), Fail> {
     group.push(name(alloc, b"A")?)?;
     group.push(name(alloc, b"B")?)?;
     let few = Refusal::TooFew {
-        link: Items::from_vec(link_text(alloc, 0, 0, Dir::E)?),
+        link: east(),
         label: 0,
         need: 2,
         has: 1,
@@ -298,15 +296,5 @@ fn a_group(rt: HostRuntime) -> Result<(), Fail> {
         &rt,
         few,
         "E50 link 0.0E label 0 needs 2 queues and has 1\ngroup A B\n",
-    )
-}
-
-#[test]
-fn no_further_lines(rt: HostRuntime) -> Result<(), Fail> {
-    let what = Items::from_vec(cell_text(rt.alloc(), 15, 2)?);
-    explained(
-        &rt,
-        Refusal::Twice { what, line: 4 },
-        "E11 line 4: 15.2 stands twice\n",
     )
 }

@@ -1,16 +1,12 @@
-ghost use Rattle.std.specs.Prelude.{IfOk, IsTrue};
-ghost use Rattle.refusals.specs.Texts.{is_kind_known};
-
-use accept::{AcceptError, Built, build, one_first_refusal};
-use refusals::{Refusal, explain, text};
+use accept::{AcceptError, Built, accepted_or_refused, build, one_first_refusal};
+use comm_sequence::Comm::{self, Read, Write};
+use refusals::{Refusal, text};
 use std::alloc::{AllocGlobal, Global};
 use std::process::Abort;
 use std::test::Fail;
 
 /// The first refusal of a text.
-fn refusal(alloc: Global, source: &[u8]) -> Result<Refusal, Fail>
-    ensures { IfOk result (λ r. IsTrue (is_kind_known r)) }
-{
+fn refusal(alloc: Global, source: &[u8]) -> Result<Refusal, Fail> {
     match build(alloc, source) {
         Ok(_) => Err("accepted".into()),
         Err(AcceptError::Memory) => Err("out of memory".into()),
@@ -34,17 +30,6 @@ fn expect<R: Abort + AllocGlobal>(rt: &R, source: &[u8], line: &str) -> Result<(
     Ok(())
 }
 
-/// The text is refused with this explanation.
-fn expect_explained<R: Abort + AllocGlobal>(
-    rt: &R,
-    source: &[u8],
-    lines: &str,
-) -> Result<(), Fail> {
-    let found = explain(rt.alloc(), &refusal(rt.alloc(), source)?)?;
-    assert_eq!(rt; found.as_slice(), lines.as_bytes());
-    Ok(())
-}
-
 /// A source of one cell whose cost is one more than the limit allows where `last` has a unary minus.
 fn costly(alloc: Global, last: &[u8]) -> Result<Vec<u8>, Fail> {
     let mut source = Vec::new(alloc);
@@ -64,6 +49,7 @@ fn costly(alloc: Global, last: &[u8]) -> Result<Vec<u8>, Fail> {
 #[test]
 fn accepts_programs(rt: HostRuntime) -> Result<(), Fail> {
     one_first_refusal();
+    accepted_or_refused();
     let rows: [(&[u8], &[u16], u32); 6] = [
         (b"array 1 x 1; queues 1;", &[], 0),
         (b"array 16 x 16; queues 32;", &[], 0),
@@ -106,22 +92,22 @@ fn accepts_programs(rt: HostRuntime) -> Result<(), Fail> {
 }
 
 #[test]
-fn crosses_messages_off_in_order(rt: HostRuntime) -> Result<(), Fail> {
-    let rows: [(&[u8], &[u16]); 3] = [
+fn crosses_operations_off_in_order(rt: HostRuntime) -> Result<(), Fail> {
+    let rows: [(&[u8], &[Comm]); 3] = [
         (
             b"array 1 x 2; queues 1; message A from 0.0 to 0.1; cell 0.0 { write A 7; } cell 0.1 { var x; read A x; emit x; }",
-            &[0],
+            &[Write(0), Read(0)],
         ),
         (
             b"array 1 x 2; queues 1; message A from 0.0 to 0.1;\n\
             cell 0.0 { if 1 { for i 2 { write A 1; } } else { write A 2; write A 3; } }\n\
             cell 0.1 { var x; for i 2 { read A x; emit x; } }",
-            &[0, 0],
+            &[Write(0), Read(0), Write(0), Read(0)],
         ),
         (
             b"array 1 x 2; queues 1; link 0.0 E queues 2; message A from 0.0 to 0.1; message B from 0.0 to 0.1;\n\
             cell 0.0 { write A 1; write B 2; write A 3; } cell 0.1 { var x; read A x; read B x; read A x; }",
-            &[0, 1, 0],
+            &[Write(0), Read(0), Write(1), Read(1), Write(0), Read(0)],
         ),
     ];
     for (source, order) in rows {
@@ -235,7 +221,7 @@ fn refuses_wrong_sources(rt: HostRuntime) -> Result<(), Fail> {
     Ok(())
 }
 
-/// A source of so many messages from the cell 0.0 to the cell 0.1, each with this label.
+/// A source of this number of messages from the cell 0.0 to the cell 0.1, each with this label.
 fn declared(alloc: Global, count: u64, label: u64) -> Result<Vec<u8>, Fail> {
     let mut source = Vec::from_slice(alloc, b"array 1 x 2; queues 32;")?;
     for number in 0..count {
@@ -263,7 +249,7 @@ fn counts_messages_and_labels(rt: HostRuntime) -> Result<(), Fail> {
 }
 
 /// Two messages from one cell to the next, with what these texts say of their labels: the second stands between two words of
-/// the first where `shared`, and else behind them.
+/// the first where `shared`, and otherwise after them.
 fn pair(alloc: Global, first: &str, second: &str, shared: bool) -> Result<Vec<u8>, Fail> {
     let mut source = Vec::from_slice(alloc, b"array 1 x 2; queues 1; message A from 0.0 to 0.1")?;
     source.extend_from_slice(first.as_bytes())?;
@@ -326,35 +312,6 @@ fn refuses_wrong_labels_and_too_few_queues(rt: HostRuntime) -> Result<(), Fail> 
     ];
     for (first, second, shared, line) in rows {
         expect(&rt, &pair(rt.alloc(), first, second, shared)?, line)?;
-    }
-    Ok(())
-}
-
-#[test]
-fn explains_refusals(rt: HostRuntime) -> Result<(), Fail> {
-    let rows: [(&[u8], &str); 4] = [
-        (
-            b"array 1 x 2; queues 1; message A from 0.0 to 0.1; message B from 0.0 to 0.1;\n\
-            cell 0.0 { write A 1; write B 2; } cell 0.1 { var x; read B x; read A x; }",
-            "E30 crossing-off leaves 4 operations\n0.0 waits to write A to 0.1\n0.1 waits to read B from 0.0\n0.0 again\n",
-        ),
-        (
-            b"array 1 x 2; queues 1; message A from 0.0 to 0.1; cell 0.0 { write A 1; }",
-            "E30 crossing-off leaves 1 operations\n0.0 waits to write A to 0.1\n0.1 has nothing left\n",
-        ),
-        (
-            b"array 1 x 2; queues 1; message A from 0.0 to 0.1; message B from 0.0 to 0.1;\n\
-            cell 0.0 { write A 1; write B 2; write A 3; } cell 0.1 { var x; read A x; read B x; read A x; }",
-            "E50 link 0.0E label 0 needs 2 queues and has 1\ngroup A B\n",
-        ),
-        (
-            b"array 1 x 2; queues 1; message A from 0.0 to 0.1 label 2; message B from 0.0 to 0.1 label 1;\n\
-            cell 0.0 { write A 1; write A 2; write B 3; } cell 0.1 { var x; read A x; read A x; read B x; }",
-            "E40 cell 0.0 at 2: B with label 1 follows A with label 2\n",
-        ),
-    ];
-    for (source, lines) in rows {
-        expect_explained(&rt, source, lines)?;
     }
     Ok(())
 }
