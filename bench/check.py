@@ -1,7 +1,7 @@
 #!/usr/bin/env python3
 """Times `check` on sources of a quarter, a half and the whole of the greatest length, of several kinds.
 
-usage: bench/check.py [PROGRAM]        PROGRAM is ./systole at the top where it isn't given
+usage: bench/check.py [PROGRAM]        PROGRAM is out/systole at the top, which ./build makes, where it isn't given
 
 Each line has a kind, the bytes, the least of five times and what the program said. The time includes the start of the process.
 """
@@ -94,7 +94,7 @@ def least_time(program, path):
 
 def main():
     here = os.path.dirname(os.path.abspath(__file__))
-    program = os.path.abspath(sys.argv[1]) if len(sys.argv) > 1 else os.path.join(here, "..", "systole")
+    program = os.path.abspath(sys.argv[1]) if len(sys.argv) > 1 else os.path.join(here, "..", "out", "systole")
     with tempfile.TemporaryDirectory() as room:
         path = os.path.join(room, "source.sys")
         for kind in (exchange, statements, sums, dense_sums, parentheses, blocks, comments, one_name):
