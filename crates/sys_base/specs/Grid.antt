@@ -40,8 +40,10 @@ col_of g cell = cell % g.cols
 -- the cell next to a cell: north is the row before, east the column after, south the row after, west the column before
 abbrev pub neighbour_of : Extent → ℕ → Dir → Option ℕ
 neighbour_of g cell N = if nat_lt 0 (row_of g cell) then Some (cell_at g (row_of g cell - 1) (col_of g cell)) else None
-neighbour_of g cell E = if nat_lt (col_of g cell + 1) g.cols then Some (cell_at g (row_of g cell) (col_of g cell + 1)) else None
-neighbour_of g cell S = if nat_lt (row_of g cell + 1) g.rows then Some (cell_at g (row_of g cell + 1) (col_of g cell)) else None
+neighbour_of g cell E =
+    if nat_lt (col_of g cell + 1) g.cols then Some (cell_at g (row_of g cell) (col_of g cell + 1)) else None
+neighbour_of g cell S =
+    if nat_lt (row_of g cell + 1) g.rows then Some (cell_at g (row_of g cell + 1) (col_of g cell)) else None
 neighbour_of g cell W = if nat_lt 0 (col_of g cell) then Some (cell_at g (row_of g cell) (col_of g cell - 1)) else None
 
 -- the number of a direction

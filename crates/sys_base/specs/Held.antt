@@ -6,8 +6,8 @@ use Rattle.sys_base.specs.declared.word.Fault.{Fault}
 use Rattle.sys_base.specs.declared.word.Word.{Word}
 use Rattle.sys_base.specs.declared.word.Word.TheVariants.{Num, Fault as Faulty}
 
--- what a cell holds: the words of its variables and arrays, its counters, the fault that it keeps where it is broken, how many input
--- words it has taken, and the words that it has emitted
+-- what a cell holds: the words of its variables and arrays, its counters, the fault that it keeps where it is broken,
+-- how many input words it has taken, and the words that it has emitted
 pub record Held : Type 0 where
   pub words : List Word
   pub counters : List ℕ
@@ -51,8 +51,8 @@ first_kept (Some first) fault = Some first
 abbrev pub broken_by : Held → Fault → Held
 broken_by held fault = record held { kept = first_kept held.kept fault }
 
--- a word is stored in an element, in a cell at a line; or the cell breaks by the index's fault, or by X where the index is not
--- below the array's length, and no element changes
+-- a word is stored in an element, in a cell at a line; or the cell breaks by the index's fault, or by X where the index
+-- is not below the array's length, and no element changes
 abbrev pub with_element : Held → (base len : ℕ) → Word → Word → ℕ → ℕ → Held
 with_element held base len (Faulty fault) value cell line = broken_by held fault
 with_element held base len (Num (negsuc n)) value cell line =

@@ -25,8 +25,8 @@ word_of number cell line = if is_64bit number then Num number else fault_at K.O 
 abbrev pub truth : Bool → Word
 truth test = if test then Num (pos 1) else Num (pos 0)
 
--- the remainder of a number by one that is not 0, with the sign of the dividend; where the quotient is no 64-bit number, as for the
--- least number by -1, the remainder is the fault O too
+-- the remainder of a number by one that is not 0, with the sign of the dividend; where the quotient is no 64-bit number,
+-- as for the least number by -1, the remainder is the fault O too
 abbrev pub remainder : ℤ → ℤ → ℕ → ℕ → Word
 remainder a b cell line = if is_64bit (int_div a b) then Num (int_rem a b) else fault_at K.O cell line
 

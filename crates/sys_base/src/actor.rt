@@ -3,9 +3,8 @@ ghost use Rattle.sys_base.specs.Actors.{actor_text, is_before};
 
 use std::fmt;
 
-/// What can take a step of the array (`docs/model.md`, "Steps"). Actors stand in this order: cells by index, then forwards by
-/// message and hop, then links by id.
-/// They are printed as `c0`, `f2.1` and `b7`.
+/// What can take a step of the array (`docs/model.md`, "Steps"). Actors stand in this order: cells by index, then
+/// forwards by message and hop, then links by id. They are printed as `c0`, `f2.1` and `b7`.
 #[derive(Clone, Copy, Debug, PartialEq, Eq, PartialOrd, Ord)]
 pub enum Actor {
     /// The cell with this index executes one instruction.

@@ -8,9 +8,9 @@ ghost use Rattle.sys_base.specs.declared.word.Word.TheVariants.{Num};
 use crate::kinds::{Kind, Op};
 use crate::word::{Fault, Word};
 
-/// What an operator gives for two words in a cell, in a statement that begins on this line. A fault is passed on, the left
-/// one first. Z comes where a divisor is zero, O where the exact result is outside 64 bits or a remainder is that of
-/// `i64::MIN` by -1.
+/// What an operator gives for two words in a cell, in a statement that begins on this line. A fault is passed on, the
+/// left one first. Z comes where a divisor is zero, O where the exact result is outside 64 bits or a remainder is that
+/// of `i64::MIN` by -1.
 pub fn apply(op: Op, a: Word, b: Word, cell: u16, line: u32) -> Word
     ensures { result ≡ applied op a b cell line }
 {
@@ -21,7 +21,8 @@ pub fn apply(op: Op, a: Word, b: Word, cell: u16, line: u32) -> Word
     }
 }
 
-/// The word with the other sign, in a cell, in a statement that begins on this line. A fault is passed on. O comes for `i64::MIN`.
+/// The word with the other sign, in a cell, in a statement that begins on this line. A fault is passed on. O comes for
+/// `i64::MIN`.
 pub fn negate(a: Word, cell: u16, line: u32) -> Word
     ensures { result ≡ negated a cell line }
 {

@@ -1,5 +1,6 @@
 ghost use Rattle.std.specs.Prelude.{◌≡◌, ℕ, ◌+◌, ◌*◌, ◌<◌, ◌≤◌, ◌↔◌, IsSome, IfSome};
 ghost use Rattle.std.specs.Option.{SomeIff, option_map};
+ghost use Rattle.sys_base.specs.declared.limits.TheConstants.{CELLS};
 ghost use Rattle.sys_base.specs.Grid.{Extent, IsExtent, cell_count, cell_at, row_of, col_of, IsInside, neighbour_of, link_id};
 
 use crate::kinds::Dir;
@@ -26,7 +27,8 @@ impl Model for Grid {
 impl Grid {
     /// The grid with so many rows and columns; `None` exactly where one of them is outside 1 to 16.
     pub fn new(rows: u64, cols: u64) -> Option<Grid>
-        ensures { SomeIff result (IsExtent (record { rows = rows; cols = cols })) (record { rows = rows; cols = cols }) }
+        ensures { SomeIff result (IsExtent (record { rows = rows; cols = cols }))
+            (record { rows = rows; cols = cols }) }
     {
         if rows == 0 || SIDE < rows || cols == 0 || SIDE < cols {
             return None;
@@ -56,7 +58,7 @@ impl Grid {
     /// The number of cells, rows times columns.
     pub fn cells(&self) -> u16
         ensures cells { result ≡ cell_count self.now }
-        ensures most { result ≤ 256 }
+        ensures most { result ≤ CELLS }
     {
         u16::from(self.rows) * u16::from(self.cols)
     }

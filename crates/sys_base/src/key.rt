@@ -52,4 +52,30 @@ impl Key {
             _ => None,
         }
     }
+
+    /// How the keyword is spelt.
+    pub fn text(self) -> &'static str
+        ensures { result.now ≡ key_text self }
+    {
+        match self {
+            Key::Array => "array",
+            Key::Queues => "queues",
+            Key::Link => "link",
+            Key::Message => "message",
+            Key::From => "from",
+            Key::To => "to",
+            Key::Route => "route",
+            Key::Label => "label",
+            Key::Cell => "cell",
+            Key::Var => "var",
+            Key::Write => "write",
+            Key::Read => "read",
+            Key::Take => "take",
+            Key::Emit => "emit",
+            Key::For => "for",
+            Key::If => "if",
+            Key::Else => "else",
+            Key::Buffer => "buffer",
+        }
+    }
 }

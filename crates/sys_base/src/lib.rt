@@ -22,7 +22,8 @@ pub use items::Items;
 pub use key::Key;
 pub use kinds::{Dir, Kind, Limit, Op};
 pub use limits::{
-    BUFFER, LABEL, MESSAGES, NAME_BYTES, QUEUES, SIDE, SOURCE_BYTES, STEPS, TURNS, VARIABLES, WORDS,
+    BUFFER, CELLS, INPUT_BYTES, LABEL, LINKS, MESSAGES, NAME_BYTES, OBJECT_BYTES, QUEUES,
+    SCHEDULE_BYTES, SIDE, SOURCE_BYTES, STEPS, TURNS, VARIABLES, WORDS,
 };
 pub use memory::Memory;
 pub use name::Name;

@@ -10,9 +10,9 @@ use std::marker::Model;
 use std::rc::Rc;
 use std::{fmt, str};
 
-/// A name of the cell language, seen as its bytes: a letter or `_`, then letters, digits and `_`, at most 32 in all, and no
-/// keyword (`docs/language.md`, "Names and keywords"). Its copies share the memory of its bytes, so that a name that stands many
-/// times in a program takes a pointer each time.
+/// A name of the cell language, seen as its bytes: a letter or `_`, then letters, digits and `_`, at most 32 in all,
+/// and no keyword (`docs/language.md`, "Names and keywords"). Its copies share the memory of its bytes, so that a name
+/// that stands many times in a program takes a pointer each time.
 #[derive(Debug, Drop)]
 pub struct Name {
     shared: Rc<Vec<u8>>,

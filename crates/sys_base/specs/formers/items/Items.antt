@@ -32,7 +32,8 @@ the_empty = []
 abbrev pub the_items : (X : Type 0) → List X → List X
 the_items X elements = elements
 
-pub the_items_listed : (X : Type 0) (elements : List X) → listed _ (children (the_former this) X elements) ≡ the_items X elements
+pub the_items_listed : (X : Type 0) (elements : List X)
+    → listed _ (children (the_former this) X elements) ≡ the_items X elements
 the_items_listed X elements = list-listed X elements
 
 -- The one field, a `Vec`, as its former splits it.
