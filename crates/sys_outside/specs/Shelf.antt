@@ -4,7 +4,7 @@ use Rattle.sys_outside.specs.declared.shelf.Fetched.{Fetched}
 use Rattle.sys_outside.specs.declared.shelf.Fetched.TheVariants.{Whole, Longer}
 use Rattle.sys_outside.specs.declared.shelf.ShelfError.{ShelfError}
 use Rattle.sys_outside.specs.declared.shelf.ShelfError.TheVariants.{Failed, Memory}
-use Rattle.sys_outside.specs.Fault.{one_more_fault}
+use Rattle.sys_outside.specs.Fault.{one_more}
 
 -- The bytes are the whole file, which has at most `limit` bytes, or the first `limit + 1` bytes of a longer one.
 abbrev pub Fetches : Option (List ℕ) → ℕ → List ℕ → Result Fetched ShelfError → Type 0
@@ -16,5 +16,5 @@ Fetches told limit bytes (Err _) = ⊤
 -- a count of faults after a fetch that ended so
 abbrev pub faults_after_fetch : ℕ → Result Fetched ShelfError → ℕ
 faults_after_fetch count (Ok _) = count
-faults_after_fetch count (Err Failed) = one_more_fault count
+faults_after_fetch count (Err Failed) = one_more count
 faults_after_fetch count (Err Memory) = count

@@ -1,5 +1,5 @@
 ghost use Rattle.std.specs.Prelude.{◌≡◌, ◌≢◌, ℕ, ◌^◌, ◌<◌, ◌≤◌, List, [], Option, None, IsErrOf, vec_capacity};
-ghost use Rattle.sys_outside.specs.Fault.{Rose, one_more_fault};
+ghost use Rattle.sys_outside.specs.Fault.{Rose};
 ghost use Rattle.sys_outside.specs.Shelf.{Fetches, faults_after_fetch};
 
 use crate::shelf::{Fetched, Shelf, ShelfError};
@@ -48,7 +48,8 @@ impl<'a, R: Files> Shelf for FileShelf<'a, R> {
         ensures failed { IsErrOf result ShelfError.Failed → Rose self.old self.new }
         ensures counts { self.new ≡ faults_after_fetch self.old result }
 
-        // Memory is wanted only where `into` came without room for `limit + 1` bytes: no error of the system is answered so.
+        // Memory is wanted only where `into` came without room for `limit + 1` bytes: no error of the system is
+        // answered so.
         ensures memory { IsErrOf result ShelfError.Memory → vec_capacity into.old ≤ limit }
     {
         into.clear();

@@ -21,7 +21,8 @@ impl Model for MemShelf {
 
     ghost Value = { Shelved };
 
-    ghost view = { λ s. record { files = files_of s.files.items; failing = s.failing.items; calls = s.calls; faults = s.faults } };
+    ghost view = { λ s.
+        record { files = files_of s.files.items; failing = s.failing.items; calls = s.calls; faults = s.faults } };
 }
 
 impl MemShelf {
@@ -73,7 +74,8 @@ impl Shelf for MemShelf {
 
 // The bytes of the first file of a name.
 pub(crate) fn find<'a>(files: &'a [(String, Vec<u8>)], name: &str) -> Option<&'a [u8]>
-    ensures { MatchOption result (named (files_of files.now) name.now ≡ None) (λ bytes. named (files_of files.now) name.now ≡ Some bytes.now) }
+    ensures { MatchOption result (named (files_of files.now) name.now ≡ None)
+        (λ bytes. named (files_of files.now) name.now ≡ Some bytes.now) }
 {
     let mut rest = files;
     while let [(key, bytes), after @ ..] = rest {

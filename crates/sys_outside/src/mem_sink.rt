@@ -17,6 +17,7 @@ pub struct MemSink {
     failing: Vec<(u32, usize)>,
     calls: u32,
     faults: u64,
+    wants: u64,
 }
 
 impl Model for MemSink {
@@ -24,19 +25,26 @@ impl Model for MemSink {
 
     ghost Value = { Gathered };
 
-    ghost view = { λ s. record { taken = s.taken.items; failing = s.failing.items; calls = s.calls; faults = s.faults } };
+    ghost view = { λ s. record {
+      taken = s.taken.items;
+      failing = s.failing.items;
+      calls = s.calls;
+      faults = s.faults;
+      wants = s.wants;
+    } };
 }
 
 impl MemSink {
     /// A sink that took nothing, whose listed calls fail.
     pub fn new(alloc: Global, failing: Vec<(u32, usize)>) -> MemSink
-        ensures { result ≡ record { taken = []; failing = failing.items; calls = 0; faults = 0 } }
+        ensures { result ≡ record { taken = []; failing = failing.items; calls = 0; faults = 0; wants = 0 } }
     {
         MemSink {
             taken: Vec::new(alloc),
             failing,
             calls: 0,
             faults: 0,
+            wants: 0,
         }
     }
 
@@ -53,6 +61,8 @@ impl Sink for MemSink {
 
     ghost faults = { λ s. s.faults };
 
+    ghost wants = { λ s. s.wants };
+
     fn put(&mut self, bytes: &[u8]) -> Result<(), SinkError>
         ensures bytes { Puts (Some self.old.taken) (Some self.new.taken) bytes.now result }
         ensures later { self.old.faults ≤ self.new.faults }
@@ -60,21 +70,37 @@ impl Sink for MemSink {
 
         // Exactly the listed calls fail, each with the bytes that are listed for it.
         ensures takes { Takes (taken_before_failing self.old) self.old.taken self.new.taken bytes.now result }
-        ensures after { self.new ≡ after_call self.old self.new.taken }
+        ensures after { self.new ≡ after_call self.old self.new.taken result }
     {
         let call = self.calls;
         self.calls = call.saturating_add(1);
-        match first_of(&self.failing, call) {
-            None => {
-                self.taken.extend_from_slice(bytes)?;
-                Ok(())
-            }
-            Some(count) => {
-                self.faults = self.faults.saturating_add(1);
-                self.taken
-                    .extend_from_slice(&bytes[..count.min(bytes.len())])?;
-                Err(SinkError::Failed)
-            }
+        let put = gather(&mut self.taken, first_of(&self.failing, call), bytes);
+        match put {
+            Ok(()) => {}
+            Err(SinkError::Failed) => self.faults = self.faults.saturating_add(1),
+            Err(SinkError::Memory) => self.wants = self.wants.saturating_add(1),
+        }
+        put
+    }
+}
+
+// Takes the whole piece, or so many bytes of it and fails.
+pub(crate) fn gather(
+    taken: &mut Vec<u8>,
+    failing: Option<usize>,
+    bytes: &[u8],
+) -> Result<(), SinkError>
+    ensures bytes { Puts (Some taken.old.items) (Some taken.new.items) bytes.now result }
+    ensures takes { Takes failing taken.old.items taken.new.items bytes.now result }
+{
+    match failing {
+        None => {
+            taken.extend_from_slice(bytes)?;
+            Ok(())
+        }
+        Some(count) => {
+            taken.extend_from_slice(&bytes[..count.min(bytes.len())])?;
+            Err(SinkError::Failed)
         }
     }
 }

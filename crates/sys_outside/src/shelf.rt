@@ -59,5 +59,6 @@ pub trait Shelf {
         ensures later { (n : List ℕ) → faults self.old n ≤ faults self.new n }
 
         // A fetch fails only where the count of its own name rose.
-        ensures failed { IsErrOf result ShelfError.Failed → Rose (faults self.old name.now) (faults self.new name.now) };
+        ensures failed { IsErrOf result ShelfError.Failed → Rose (faults self.old name.now)
+            (faults self.new name.now) };
 }

@@ -36,6 +36,8 @@ impl<W: Write + Drop> Sink for StreamSink<W> {
 
     ghost faults = { λ s. s.1 };
 
+    ghost wants = { λ _. 0 };
+
     fn put(&mut self, bytes: &[u8]) -> Result<(), SinkError>
         ensures bytes { Puts None None bytes.now result }
         ensures later { self.old.1 ≤ self.new.1 }
