@@ -1,5 +1,5 @@
--- One more byte of a gap or a comment at a place of a text.
-use Rattle.std.proofs.Common.{ℕ, ◌≡◌, ◌+◌, ◌<◌, ◌≤◌, true, List, ◌∷◌, length, get_or, drop, sym, ap, ◌∙◌, subst, drop_of_length-le}
+-- One more byte of a gap at a place of a text, and a whole comment.
+use Rattle.std.proofs.Common.{ℕ, ◌≡◌, ◌+◌, ◌<◌, ◌≤◌, true, List, [], ◌∷◌, length, get_or, drop, zero, suc, sym, ap, ◌∙◌, subst, arith}
 use Rattle.std.proofs.lemmas.List.{drop_more}
 use Rattle.sys_base.specs.Bytes.{is_space}
 use Rattle.cell_lexer.specs.Gaps.{Comment, at_end, at_line, inside, Gap, none, space, comment}
@@ -15,11 +15,12 @@ module _ (text : List ℕ) (at next : ℕ) (lt : at < length text) (e : next ≡
   pub one_comment : (rest : List ℕ) → get_or text at 0 ≡ 35 → Comment (drop next text) rest → Gap (drop at text) rest
   one_comment rest hash c = subst (λ bs. Gap bs rest) (sym split) (comment hash c none)
 
-  pub comment_goes_on : (rest : List ℕ) → (get_or text at 0 ≡ 10 → ⊥) → Comment (drop next text) rest → Comment (drop at text) rest
-  comment_goes_on rest ne c = subst (λ bs. Comment bs rest) (sym split) (inside ne c)
-
-pub comment_at_line : (text : List ℕ) (at : ℕ) → at < length text → get_or text at 0 ≡ 10 → Comment (drop at text) (drop at text)
-comment_at_line text at lt e = subst (λ bs. Comment bs bs) (sym (drop_more text at 0 lt)) (at_line e)
-
-pub comment_at_end : (text : List ℕ) (at : ℕ) → length text ≤ at → Comment (drop at text) (drop at text)
-comment_at_end text at le = subst (λ bs. Comment bs bs) (sym (drop_of_length-le text le)) at_end
+-- a comment ends where the first newline stands, or at the end
+pub comment_run : (bytes : List ℕ) (n : ℕ) → n ≤ length bytes → ((k : ℕ) → k < n → get_or bytes k 0 ≡ 10 → ⊥)
+    → (n < length bytes → get_or bytes n 0 ≡ 10) → Comment bytes (drop n bytes)
+comment_run [] zero le each stop = at_end
+comment_run [] (suc n) le each stop = absurd (omega arith)
+comment_run (b ∷ bytes) zero le each stop = at_line (stop (omega arith))
+comment_run (b ∷ bytes) (suc n) le each stop =
+    inside (each 0 (omega arith))
+    (comment_run bytes n (omega arith) (λ k lt. each (suc k) (omega arith)) (λ lt. stop (omega arith)))

@@ -22,7 +22,7 @@ one_byte text at lt ne =
       column = ap (λ bs. 1 + before_newline bs) turned ∙ ap (λ n. 1 + n) (cond-false _ 0 (1 + before_newline (reverse (take at text))) no) ∙ omega arith;
     }
 
-same_line : (text : List ℕ) (at n : ℕ) → at + n ≤ length text → ((i : ℕ) → i < n → get_or text (at + i) 0 ≡ 10 → ⊥) → SameLine text at (at + n) n
+pub same_line : (text : List ℕ) (at n : ℕ) → at + n ≤ length text → ((i : ℕ) → i < n → get_or text (at + i) 0 ≡ 10 → ⊥) → SameLine text at (at + n) n
 same_line text at zero le none =
     let e : at ≡ at + 0 = omega arith in
     record { line = ap (line_at text) (sym e); column = ap (column_at text) (sym e) ∙ omega arith }
@@ -41,9 +41,12 @@ token_within text at n l =
     let some = form_some _ l.form in
     omega (arith, some, length-take-le n (drop at text) l.inside, l.inside, length-drop at text)
 
--- a token is on one line
-pub token_line : (text : List ℕ) (at n : ℕ) → Longest (drop at text) n → SameLine text at (at + n) n
-token_line text at n l =
+-- no byte of a token is a newline
+pub token_no_newline : (text : List ℕ) (at n : ℕ) → Longest (drop at text) n → (i : ℕ) → i < n → get_or text (at + i) 0 ≡ 10 → ⊥
+token_no_newline text at n l i lt e =
     let len = length-take-le n (drop at text) l.inside in
-    let rest = length-drop at text in
-    same_line text at n (token_within text at n l) (λ i lt e. form_no_newline _ l.form i (omega arith) (get_or-take n (drop at text) i 0 lt ∙ get_or-drop at text i 0 ∙ e))
+    form_no_newline _ l.form i (omega arith) (get_or-take n (drop at text) i 0 lt ∙ get_or-drop at text i 0 ∙ e)
+
+-- so a token is on one line
+pub token_line : (text : List ℕ) (at n : ℕ) → Longest (drop at text) n → SameLine text at (at + n) n
+token_line text at n l = same_line text at n (token_within text at n l) (token_no_newline text at n l)

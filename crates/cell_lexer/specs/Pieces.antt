@@ -50,7 +50,8 @@ Legible (p ∷ ps) last = Blank p.gap × Says p.word p.sort × Separate p.sort (
 
 -- the token of a word at a place of a text
 abbrev pub token_of : List ℕ → ℕ → Piece → Token
-token_of text at p = record { sort = p.sort; at = at; len = length p.word; line = line_at text at; column = column_at text at }
+token_of text at p =
+    record { sort = p.sort; at = at; len = length p.word; line = line_at text at; column = column_at text at }
 
 -- the tokens of pieces, where the first piece begins with its gap at a place of the text
 abbrev pub placed : List ℕ → ℕ → List Piece → List Token

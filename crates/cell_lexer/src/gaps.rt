@@ -1,9 +1,9 @@
-ghost use Rattle.std.specs.Prelude.{◌<◌, ◌≤◌, length, drop, slice_index, IfSome, IfNone};
+ghost use Rattle.std.specs.Prelude.{◌≡◌, ℕ, ◌<◌, ◌≤◌, length, drop, slice_index, IfSome, IfNone};
 ghost use Rattle.sys_base.specs.declared.limits.TheConstants.{SOURCE_BYTES};
 ghost use Rattle.cell_lexer.specs.Gaps.{Comment, Gap};
 ghost use Rattle.cell_lexer.specs.Inner.Scanning.{IsPlace, IsSolid};
 
-use crate::place::{Place, step};
+use crate::place::{Place, along, step};
 use sys_base::bytes::is_space;
 
 /// Where the gap that begins here ends, which may be here.
@@ -49,9 +49,20 @@ fn comment_end(text: &[u8], start: Place) -> Place
     ensures comment { Comment (drop start.at text.now) (drop result.at text.now) }
     ensures onward { start.at ≤ result.at }
 {
-    let mut place = start;
-    'comment: while (place.at as usize) < text.len() && text[place.at as usize] != b'\n' {
-        place = step(text, place);
+    let len = line_len(&text[start.at as usize..]);
+    along(text, start, len as u32)
+}
+
+/// How many bytes stand before the first newline.
+fn line_len(rest: &[u8]) -> usize
+    ensures inside { result ≤ length rest.now }
+    ensures each { (k : ℕ) → k < result → slice_index rest.now k ≡ 10 → ⊥ }
+    ensures stop { result < length rest.now → slice_index rest.now result ≡ 10 }
+{
+    for (len, byte) in rest.iter().enumerate() {
+        if *byte == b'\n' {
+            return len;
+        }
     }
-    place
+    rest.len()
 }

@@ -1,4 +1,4 @@
-ghost use Rattle.std.specs.Prelude.{◌≡◌, ◌+◌, ◌-◌, ◌^◌, ◌<◌, ◌≤◌, length, drop};
+ghost use Rattle.std.specs.Prelude.{◌≡◌, ℕ, ◌+◌, ◌-◌, ◌^◌, ◌<◌, ◌≤◌, length, drop, slice_index};
 ghost use Rattle.sys_base.specs.declared.limits.TheConstants.{SOURCE_BYTES};
 ghost use Rattle.cell_lexer.specs.Forms.{Longest};
 ghost use Rattle.cell_lexer.specs.Places.{line_at, column_at};
@@ -66,11 +66,12 @@ pub(crate) fn step(text: &[u8], place: Place) -> Place
     }
 }
 
-/// The place after a token of this many bytes.
-pub(crate) fn past(text: &[u8], place: Place, len: u32) -> Place
-    requires short { length text.now ≤ SOURCE_BYTES }
+/// The place this many bytes on, where none of them is a newline.
+pub(crate) fn along(text: &[u8], place: Place, len: u32) -> Place
+    requires short { length text.now < 2 ^ 32 - 1 }
     requires place { IsPlace text.now place }
-    requires token { Longest (drop place.at text.now) len }
+    requires inside { place.at + len ≤ length text.now }
+    requires line { (k : ℕ) → k < len → slice_index text.now (place.at + k) ≡ 10 → ⊥ }
     ensures place { IsPlace text.now result }
     ensures next { result.at ≡ place.at + len }
 {
@@ -79,4 +80,15 @@ pub(crate) fn past(text: &[u8], place: Place, len: u32) -> Place
         line: place.line,
         column: place.column + len,
     }
+}
+
+/// The place after a token of this many bytes.
+pub(crate) fn past(text: &[u8], place: Place, len: u32) -> Place
+    requires short { length text.now ≤ SOURCE_BYTES }
+    requires place { IsPlace text.now place }
+    requires token { Longest (drop place.at text.now) len }
+    ensures place { IsPlace text.now result }
+    ensures next { result.at ≡ place.at + len }
+{
+    along(text, place, len)
 }

@@ -1,17 +1,12 @@
-use Rattle.std.proofs.Common.{◌+◌, ap, ◌∙◌, sym, arith}
-use Rattle.cell_lexer.proofs.TextLines.{token_line, token_within}
+use Rattle.std.proofs.Common.{arith}
+use Rattle.cell_lexer.proofs.TextLines.{token_no_newline, token_within}
 use Rattle.cell_lexer.proofs.place.past.Goals as goal
 
-pub returns-clause-place : goal.returns-clause-place
-returns-clause-place c =
-    let text = c.args.text.now in
-    let at = c.args.place.at in
-    let here = c.requires.place in
-    let same = token_line text at c.args.len c.requires.token in
+pub along-requires : goal.along-requires
+along-requires c =
     record {
-      inside = token_within text at c.args.len c.requires.token;
-      line = here.line ∙ sym same.line;
-      column = ap (λ n. n + c.args.len) here.column ∙ sym same.column;
-      low_line = omega arith;
-      low_column = omega arith;
+      short = omega arith;
+      place = c.requires.place;
+      inside = token_within c.args.text.now c.args.place.at c.args.len c.requires.token;
+      line = token_no_newline c.args.text.now c.args.place.at c.args.len c.requires.token;
     }
