@@ -4,7 +4,7 @@ use Rattle.std.specs.Prelude.{codes}
 use Rattle.std.specs.List.{sum}
 use Rattle.sys_base.specs.declared.kinds.Op.{Op}
 use Rattle.sys_base.specs.declared.kinds.Op.TheVariants as O
-use Rattle.cell_tree.specs.Nodes.{nodes_step, expression_nodes, act_nodes, statement_nodes, cell_nodes, source_nodes}
+use Rattle.cell_tree.specs.Nodes.{nodes_step, expression_nodes, act_nodes, statement_nodes, cell_nodes}
 use Rattle.cell_tree.specs.declared.expression.Expr.{Expr}
 use Rattle.cell_tree.specs.declared.expression.Expr.TheFolds.{fold-roll-Expr}
 use Rattle.cell_tree.specs.declared.expression.Expr.TheOpen.{Expr-F}

@@ -1,5 +1,5 @@
 -- The trees whose canonical text is a text of the language.
-use Rattle.std.specs.Prelude.{◌≡◌, ℕ, ◌+◌, ◌-◌, ◌≤◌, Bool, true, not, nat_lt, ◌&&◌, ◌||◌, IsTrue, List, [], ◌∷◌, ◌++◌, All, Option, Some, None, map, if◌then◌else◌}
+use Rattle.std.specs.Prelude.{ℕ, ◌+◌, ◌-◌, ◌≤◌, Bool, true, not, nat_lt, ◌&&◌, ◌||◌, IsTrue, List, [], ◌∷◌, ◌++◌, All, Option, Some, None, map, if◌then◌else◌}
 use Rattle.std.specs.List.{concat, flat_map}
 use Rattle.std.specs.Str.{bytes_eq}
 use Rattle.sys_base.specs.Name.{IsName}
@@ -141,11 +141,10 @@ braces_fit count [] = true
 braces_fit count (word ∷ words) = (nat_lt count OPEN_BRACES || not (is_opening word))
     && braces_fit (open_after count word) words
 
--- A tree is printable where its names and numbers are those of the language, it has no `buffer` line, and its
--- canonical text keeps the limits on runs of words and on open braces.
+-- A tree is printable where its names and numbers are those of the language, and its canonical text keeps the limits on
+-- runs of words and on open braces.
 pub record IsPrintable (source : Source) : Type 0 where
   pub names : All IsName (source_names source)
   pub numbers : All (λ n. n ≤ GREATEST_NUMBER) (source_numbers source)
-  pub buffer : source.buffer ≡ 0
   pub runs : IsTrue (runs_fit 0 (words_of (canonical_pieces source)))
   pub braces : IsTrue (braces_fit 0 (words_of (canonical_pieces source)))

@@ -1,12 +1,15 @@
 ghost use Rattle.std.specs.Prelude.{◌≡◌, ◌++◌, OnOk, IfOk};
 ghost use Rattle.std.specs.List.{flat_map};
+ghost use Rattle.sys_base.specs.Key.{key_text};
 ghost use Rattle.cell_tree.specs.Canonical.{dir_text, place_pieces, array_pieces, setting_pieces, buffer_pieces, settings_pieces, link_pieces, ends_pieces, route_pieces, label_pieces, message_pieces, length_pieces, var_pieces, contents_pieces, cell_pieces, canonical};
 ghost use Rattle.cell_tree.specs.Pieces.{joined};
 
 use crate::print_statement::write_statements;
 use crate::source::{CellDecl, LinkDecl, MessageDecl, Place, Source, VarDecl};
-use crate::words::{write_line, write_mark, write_mark_line, write_number, write_word};
-use cell_lexer::Mark;
+use crate::words::{
+    write_key, write_key_line, write_mark, write_mark_line, write_number, write_word,
+};
+use cell_lexer::{Key, Mark};
 use std::alloc::Global;
 use sys_base::{Dir, Memory};
 
@@ -30,14 +33,14 @@ fn write_settings(out: &mut Vec<u8>, source: &Source) -> Result<(), Memory>
     ensures { OnOk result (out.new.items ≡ out.old.items ++ joined (settings_pieces source.now)) }
 {
     write_array(out, source)?;
-    write_setting(out, b"queues", source.queues)?;
+    write_setting(out, Key::Queues, source.queues)?;
     write_buffer(out, source.buffer)
 }
 
 fn write_array(out: &mut Vec<u8>, source: &Source) -> Result<(), Memory>
     ensures { OnOk result (out.new.items ≡ out.old.items ++ joined (array_pieces source.now)) }
 {
-    write_word(out, b"", b"array")?;
+    write_key(out, b"", Key::Array)?;
     write_number(out, b" ", source.rows)?;
     write_word(out, b" ", b"x")?;
     write_number(out, b" ", source.cols)?;
@@ -45,10 +48,10 @@ fn write_array(out: &mut Vec<u8>, source: &Source) -> Result<(), Memory>
 }
 
 /// Writes a line that gives one number.
-fn write_setting(out: &mut Vec<u8>, key: &[u8], number: u64) -> Result<(), Memory>
-    ensures { OnOk result (out.new.items ≡ out.old.items ++ joined (setting_pieces key.now number)) }
+fn write_setting(out: &mut Vec<u8>, key: Key, number: u64) -> Result<(), Memory>
+    ensures { OnOk result (out.new.items ≡ out.old.items ++ joined (setting_pieces (key_text key) number)) }
 {
-    write_line(out, 0, key)?;
+    write_key_line(out, 0, key)?;
     write_number(out, b" ", number)?;
     write_mark(out, b"", Mark::Semicolon)
 }
@@ -58,7 +61,7 @@ fn write_buffer(out: &mut Vec<u8>, buffer: u64) -> Result<(), Memory>
     ensures { OnOk result (out.new.items ≡ out.old.items ++ joined (buffer_pieces buffer)) }
 {
     if buffer != 0 {
-        write_setting(out, b"buffer", buffer)?;
+        write_setting(out, Key::Buffer, buffer)?;
     }
     Ok(())
 }
@@ -75,10 +78,10 @@ fn write_links(out: &mut Vec<u8>, links: &[LinkDecl]) -> Result<(), Memory>
 fn write_link(out: &mut Vec<u8>, link: &LinkDecl) -> Result<(), Memory>
     ensures { OnOk result (out.new.items ≡ out.old.items ++ joined (link_pieces link.now)) }
 {
-    write_line(out, 0, b"link")?;
+    write_key_line(out, 0, Key::Link)?;
     write_place(out, link.place)?;
     write_word(out, b" ", dir_text(link.dir))?;
-    write_word(out, b" ", b"queues")?;
+    write_key(out, b" ", Key::Queues)?;
     write_number(out, b" ", link.queues)?;
     write_mark(out, b"", Mark::Semicolon)
 }
@@ -95,7 +98,7 @@ fn write_messages(out: &mut Vec<u8>, messages: &[MessageDecl]) -> Result<(), Mem
 fn write_message(out: &mut Vec<u8>, message: &MessageDecl) -> Result<(), Memory>
     ensures { OnOk result (out.new.items ≡ out.old.items ++ joined (message_pieces message.now)) }
 {
-    write_line(out, 0, b"message")?;
+    write_key_line(out, 0, Key::Message)?;
     write_word(out, b" ", message.name.bytes())?;
     write_ends(out, message)?;
     write_route(out, message.route.as_slice())?;
@@ -107,9 +110,9 @@ fn write_message(out: &mut Vec<u8>, message: &MessageDecl) -> Result<(), Memory>
 fn write_ends(out: &mut Vec<u8>, message: &MessageDecl) -> Result<(), Memory>
     ensures { OnOk result (out.new.items ≡ out.old.items ++ joined (ends_pieces message.now)) }
 {
-    write_word(out, b" ", b"from")?;
+    write_key(out, b" ", Key::From)?;
     write_place(out, message.from)?;
-    write_word(out, b" ", b"to")?;
+    write_key(out, b" ", Key::To)?;
     write_place(out, message.to)
 }
 
@@ -121,7 +124,7 @@ fn write_route(out: &mut Vec<u8>, route: &[Dir]) -> Result<(), Memory>
     if route.is_empty() {
         return Ok(());
     }
-    write_word(out, b" ", b"route")?;
+    write_key(out, b" ", Key::Route)?;
     for dir in route {
         write_word(out, b" ", dir_text(*dir))?;
     }
@@ -133,7 +136,7 @@ fn write_label(out: &mut Vec<u8>, label: Option<u64>) -> Result<(), Memory>
     ensures { OnOk result (out.new.items ≡ out.old.items ++ joined (label_pieces label)) }
 {
     if let Some(label) = label {
-        write_word(out, b" ", b"label")?;
+        write_key(out, b" ", Key::Label)?;
         write_number(out, b" ", label)?;
     }
     Ok(())
@@ -151,7 +154,7 @@ fn write_cells(out: &mut Vec<u8>, cells: &[CellDecl]) -> Result<(), Memory>
 fn write_cell(out: &mut Vec<u8>, cell: &CellDecl) -> Result<(), Memory>
     ensures { OnOk result (out.new.items ≡ out.old.items ++ joined (cell_pieces cell.now)) }
 {
-    write_line(out, 0, b"cell")?;
+    write_key_line(out, 0, Key::Cell)?;
     write_place(out, cell.place)?;
     write_mark(out, b" ", Mark::OpenBrace)?;
     write_contents(out, cell)?;
@@ -178,7 +181,7 @@ fn write_vars(out: &mut Vec<u8>, vars: &[VarDecl]) -> Result<(), Memory>
 fn write_var(out: &mut Vec<u8>, variable: &VarDecl) -> Result<(), Memory>
     ensures { OnOk result (out.new.items ≡ out.old.items ++ joined (var_pieces variable.now)) }
 {
-    write_line(out, 1, b"var")?;
+    write_key_line(out, 1, Key::Var)?;
     write_word(out, b" ", variable.name.bytes())?;
     write_length(out, variable.length)?;
     write_mark(out, b"", Mark::Semicolon)

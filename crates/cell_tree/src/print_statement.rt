@@ -7,8 +7,10 @@ ghost use Rattle.cell_tree.specs.declared.statement.Act.TheOpen.{Act-F};
 use crate::expression::Expr;
 use crate::print_expression::{write_expression, write_index};
 use crate::statement::{Act, Stmt};
-use crate::words::{write_line, write_mark, write_mark_line, write_number, write_word};
-use cell_lexer::Mark;
+use crate::words::{
+    write_key, write_key_line, write_line, write_mark, write_mark_line, write_number, write_word,
+};
+use cell_lexer::{Key, Mark};
 use sys_base::{Memory, Name};
 
 /// Writes statements that are inside this many open blocks.
@@ -45,7 +47,7 @@ fn write_statement(out: &mut Vec<u8>, depth: usize, statement: &Stmt) -> Result<
         Act::If { test, yes, no } => {
             write_if(out, depth, test)?;
             write_block(out, depth, yes.as_slice())?;
-            write_word(out, b" ", b"else")?;
+            write_key(out, b" ", Key::Else)?;
             write_block(out, depth, no.as_slice())
         }
     }
@@ -74,7 +76,7 @@ fn deeper(depth: usize) -> Result<usize, Memory>
 fn write_for(out: &mut Vec<u8>, depth: usize, counter: &Name, turns: u64) -> Result<(), Memory>
     ensures { OnOk result (out.new.items ≡ out.old.items ++ joined (for_pieces counter.now turns depth)) }
 {
-    write_line(out, depth, b"for")?;
+    write_key_line(out, depth, Key::For)?;
     write_word(out, b" ", counter.bytes())?;
     write_number(out, b" ", turns)
 }
@@ -83,7 +85,7 @@ fn write_for(out: &mut Vec<u8>, depth: usize, counter: &Name, turns: u64) -> Res
 fn write_if(out: &mut Vec<u8>, depth: usize, test: &Expr) -> Result<(), Memory>
     ensures { OnOk result (out.new.items ≡ out.old.items ++ joined (if_pieces test.now depth)) }
 {
-    write_line(out, depth, b"if")?;
+    write_key_line(out, depth, Key::If)?;
     write_expression(out, b" ", test)
 }
 
@@ -117,7 +119,7 @@ fn write_write(out: &mut Vec<u8>, depth: usize, message: &Name, value: &Expr) ->
     ensures { OnOk result (out.new.items ≡ out.old.items
         ++ joined (act_step (Act-F.Write message.now value.now) depth)) }
 {
-    write_line(out, depth, b"write")?;
+    write_key_line(out, depth, Key::Write)?;
     write_word(out, b" ", message.bytes())?;
     write_expression(out, b" ", value)?;
     write_mark(out, b"", Mark::Semicolon)
@@ -126,7 +128,7 @@ fn write_write(out: &mut Vec<u8>, depth: usize, message: &Name, value: &Expr) ->
 fn write_read(out: &mut Vec<u8>, depth: usize, message: &Name, name: &Name) -> Result<(), Memory>
     ensures { OnOk result (out.new.items ≡ out.old.items ++ joined (act_step (Act-F.Read message.now name.now) depth)) }
 {
-    write_line(out, depth, b"read")?;
+    write_key_line(out, depth, Key::Read)?;
     write_word(out, b" ", message.bytes())?;
     write_word(out, b" ", name.bytes())?;
     write_mark(out, b"", Mark::Semicolon)
@@ -135,7 +137,7 @@ fn write_read(out: &mut Vec<u8>, depth: usize, message: &Name, name: &Name) -> R
 fn write_take(out: &mut Vec<u8>, depth: usize, name: &Name) -> Result<(), Memory>
     ensures { OnOk result (out.new.items ≡ out.old.items ++ joined (act_step (Act-F.Take name.now) depth)) }
 {
-    write_line(out, depth, b"take")?;
+    write_key_line(out, depth, Key::Take)?;
     write_word(out, b" ", name.bytes())?;
     write_mark(out, b"", Mark::Semicolon)
 }
@@ -143,7 +145,7 @@ fn write_take(out: &mut Vec<u8>, depth: usize, name: &Name) -> Result<(), Memory
 fn write_emit(out: &mut Vec<u8>, depth: usize, value: &Expr) -> Result<(), Memory>
     ensures { OnOk result (out.new.items ≡ out.old.items ++ joined (act_step (Act-F.Emit value.now) depth)) }
 {
-    write_line(out, depth, b"emit")?;
+    write_key_line(out, depth, Key::Emit)?;
     write_expression(out, b" ", value)?;
     write_mark(out, b"", Mark::Semicolon)
 }
