@@ -14,10 +14,10 @@ use Rattle.cell_tree.specs.declared.source.Source.{Source}
 use Rattle.cell_tree.specs.declared.statement.Act.TheVariants as A
 use Rattle.cell_tree.specs.declared.statement.Stmt.{Stmt}
 use Rattle.cell_parser.specs.Grammar as G
-use Rattle.cell_parser.specs.Grammar.{Class, Product, Additive, Comparison, Bracket, Other, class, Whole, Sum, Term, Unary, Atom, ReadsExpr, ReadsStmt, ReadsBody, Star, done, next, ReadsPlace, ReadsDir, ReadsLabel, ReadsRoute, ReadsLength, ReadsLink, ReadsMessage, ReadsVar, ReadsCell, Reads, on_line}
+use Rattle.cell_parser.specs.Grammar.{Class, Product, Additive, Comparison, Bracket, Other, class, Whole, Sum, Term, Unary, Atom, ReadsExpr, ReadsStmt, ReadsBody, Star, done, next, ReadsPlace, ReadsDir, ReadsLabel, ReadsRoute, ReadsLength, ReadsBuffer, ReadsLink, ReadsMessage, ReadsVar, ReadsCell, Reads, on_line}
 use Rattle.cell_parser.specs.Lexeme.{Word, Named, Numeral, Keyword, Marked, Lexeme, At}
 use Rattle.cell_parser.specs.Inner.Machine as Mach
-use Rattle.cell_parser.specs.Inner.Machine.{same_word, dir_of, Closer, ByParen, ByBracket, BySemicolon, ByBrace, closing, Around, InCell, InLoop, InYes, InNo, Open, Negates, Operand, Terms, Sums, Compares, Then, State, Want, WantAtom, Called, Have, Body, Target, Expect, ExpectName, ExpectNumber, ExpectKey, ExpectDir, Route, Dirs, Label, Length, Links, Messages, Cells, Vars, whole, closed, at_atom, at_operand, at_terms, at_sums, at_compares, at_called, if_same, at_open, at_body, at_target, at_name, at_number, at_dir, at_dir_name, at_label, at_dirs, at_route, at_length, at_cells, at_messages, at_links, at_vars, with_link, with_message, with_cell, with_var, at, step, finish, going, run, start}
+use Rattle.cell_parser.specs.Inner.Machine.{same_word, dir_of, Closer, ByParen, ByBracket, BySemicolon, ByBrace, closing, Around, InCell, InLoop, InYes, InNo, Open, Negates, Operand, Terms, Sums, Compares, Then, State, Want, WantAtom, Called, Have, Body, Target, Expect, ExpectName, ExpectNumber, ExpectKey, ExpectDir, Route, Dirs, Label, Length, Buffer, Links, Messages, Cells, Vars, whole, closed, at_atom, at_operand, at_terms, at_sums, at_compares, at_called, if_same, at_open, at_body, at_target, at_name, at_number, at_dir, at_dir_name, at_label, at_dirs, at_route, at_length, at_cells, at_messages, at_links, at_buffer, at_vars, with_link, with_message, with_cell, with_var, at, step, finish, going, run, start}
 use Rattle.cell_parser.proofs.Sentences.{Takes, takes, TakesName, takes_name, TakesNumber, takes_number, TakesKey, takes_key, Part, part, grown, Ends, ends, ReadsCalled, ReadsTarget, CellsGo, MessagesGo, LinksGo, Closes, BodyGoes, Goes, Sentence, After}
 use Rattle.cell_parser.proofs.Words.{same_words, text_of_dir}
 
@@ -317,6 +317,10 @@ module _ (p : Source) where
   links_back l (Keyword K.Link) s us after = link_back l s us after
   links_back l w s us after = no_links_back s _ (messages_back l w s us after)
 
+  buffer_back : (l : ℕ) (w : Word) (f : ℕ → ℕ → Source) (us : List Lexeme) → After p (at_buffer w l f) us → Sentence p (Buffer f) (At l w ∷ us)
+  buffer_back l (Keyword K.Buffer) f us (takes_number (takes goes)) = part G.buffer goes
+  buffer_back l w f us after = part G.no_buffer (links_back l w (f 0 0) us after)
+
   vars_back : (l : ℕ) (w : Word) (s : Source) (c : CellDecl) (us : List Lexeme) → After p (at_vars w l s c) us → Sentence p (Vars s c) (At l w ∷ us)
   vars_back l (Keyword K.Var) s c us after = variable_back l s c us after
   vars_back l w s c us after = no_vars_back s c _ (body_back l w [] (InCell s c) us after)
@@ -338,6 +342,7 @@ module _ (p : Source) where
   step_back (Dirs ds f) l w us after = dirs_back l w ds f us after
   step_back (Label f) l w us after = label_back l w f us after
   step_back (Length f) l w us after = length_back l w f us after
+  step_back (Buffer f) l w us after = buffer_back l w f us after
   step_back (Links s) l w us after = links_back l w s us after
   step_back (Messages s) l w us after = messages_back l w s us after
   step_back (Cells s) l w us after = cells_back l w s us after
@@ -345,6 +350,7 @@ module _ (p : Source) where
 
   -- Where the words end.
   end_back : (state : State) → finish state ≡ Ok p → Sentence p state []
+  end_back (Buffer f) h = part G.no_buffer (no_links_back (f 0 0) [] (no_messages_back (f 0 0) [] (cells_end_back (f 0 0) (one_ok (f 0 0) p h))))
   end_back (Links s) h = no_links_back s [] (no_messages_back s [] (cells_end_back s (one_ok s p h)))
   end_back (Messages s) h = no_messages_back s [] (cells_end_back s (one_ok s p h))
   end_back (Cells s) h = cells_end_back s (one_ok s p h)
@@ -360,8 +366,8 @@ module _ (p : Source) where
   sentence_back (At l w ∷ ts) state h = step_back state l w ts (going_back (at state l w) ts (suc (length ts)) h (λ next q. sentence_back ts next q))
 
   start_back : (ts : List Lexeme) → Sentence p start ts → Reads ts p
-  start_back ts (takes_key (takes_number (takes (takes_number (takes (takes_key (takes_number (takes (part q (part r (part t (ends e)))))))))))) =
-      subst (Reads _) e (G.program refl q r t)
+  start_back ts (takes_key (takes_number (takes (takes_number (takes (takes_key (takes_number (takes (part b (part q (part r (part t (ends e))))))))))))) =
+      subst (Reads _) e (G.program refl b q r t)
 
 -- What the machine reads to a source is that source in the grammar.
 pub backward : (ts : List Lexeme) (s : Source) → run start ts ≡ Ok s → Reads ts s

@@ -7,7 +7,7 @@ use Rattle.cell_lexer.specs.declared.token.Token.{Token}
 use Rattle.cell_tree.specs.declared.source.CellDecl.{CellDecl}
 use Rattle.cell_tree.specs.declared.source.Source.{Source}
 use Rattle.cell_parser.specs.Lexeme.{Word, Named, Numeral, Keyword, Marked, Lexeme, At, lexemes}
-use Rattle.cell_parser.specs.Inner.Machine.{State, InCell, Body, Route, Dirs, Label, Length, Links, Messages, Cells, Vars, same_word, dir_of, mark, run, going, if_same, at_body, at_dir, at_label, at_route, at_length, at_cells, at_messages, at_links, at_vars}
+use Rattle.cell_parser.specs.Inner.Machine.{State, InCell, Body, Route, Dirs, Label, Length, Buffer, Links, Messages, Cells, Vars, same_word, dir_of, mark, run, going, if_same, at_body, at_dir, at_label, at_route, at_length, at_cells, at_messages, at_links, at_buffer, at_vars}
 use Rattle.cell_parser.proofs.Steps.{Without}
 
 -- the step at the first word, where another state has the same one
@@ -16,6 +16,14 @@ same_step l w us o p e = ap (λ o. going o (λ next. run next us) (suc (length u
 
 without : (v w : Word) (l : ℕ) (us : List Lexeme) → Without v (At l w ∷ us) → w ≡ v → ⊥
 without v w l us h e = h l us (ap (λ x. At l x ∷ us) e)
+
+buffer_other : (w : Word) (l : ℕ) (f : ℕ → ℕ → Source) → (w ≡ Keyword K.Buffer → ⊥) → at_buffer w l f ≡ at_links w l (f 0 0)
+buffer_other (Keyword K.Buffer) l f h = absurd (h refl)
+buffer_other w l f h = refl
+
+pub buffer_pass : (f : ℕ → ℕ → Source) (xs : List Lexeme) → Without (Keyword K.Buffer) xs → run (Buffer f) xs ≡ run (Links (f 0 0)) xs
+buffer_pass f [] h = refl
+buffer_pass f (At l w ∷ us) h = same_step l w us _ _ (buffer_other w l f (without (Keyword K.Buffer) w l us h))
 
 links_other : (w : Word) (l : ℕ) (s : Source) → (w ≡ Keyword K.Link → ⊥) → at_links w l s ≡ at_messages w l s
 links_other (Keyword K.Link) l s h = absurd (h refl)

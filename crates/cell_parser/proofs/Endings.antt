@@ -11,7 +11,7 @@ use Rattle.cell_tree.specs.declared.statement.Act.TheVariants as A
 use Rattle.cell_tree.specs.declared.statement.Stmt.{Stmt}
 use Rattle.cell_parser.specs.Grammar.{class, on_line}
 use Rattle.cell_parser.specs.Lexeme.{Word, Named, Numeral, Keyword, Marked, Lexeme, At}
-use Rattle.cell_parser.specs.Inner.Machine.{Closer, ByParen, ByBracket, BySemicolon, ByBrace, closing, Around, InCell, InLoop, InYes, InNo, Open, Negates, Operand, Terms, Sums, Compares, Then, State, Want, WantAtom, Called, Have, Body, Target, Expect, ExpectName, ExpectNumber, ExpectKey, ExpectDir, Route, Dirs, Label, Length, Links, Messages, Cells, Vars, if_same, going, run}
+use Rattle.cell_parser.specs.Inner.Machine.{Closer, ByParen, ByBracket, BySemicolon, ByBrace, closing, Around, InCell, InLoop, InYes, InNo, Open, Negates, Operand, Terms, Sums, Compares, Then, State, Want, WantAtom, Called, Have, Body, Target, Expect, ExpectName, ExpectNumber, ExpectKey, ExpectDir, Route, Dirs, Label, Length, Buffer, Links, Messages, Cells, Vars, if_same, going, run}
 use Rattle.cell_parser.proofs.Words.{equal_words}
 use Rattle.cell_parser.proofs.Forward.{Clear, Passes, past_called, past_terms, past_sums, past_compares, past_operand, past_minus, sum_clear, term_clear, unary_clear, atom_clear}
 use Rattle.cell_parser.specs.Grammar.{Whole}
@@ -59,6 +59,7 @@ abbrev mutual
   ending (Dirs ds f) = word (Marked M.Semicolon) (ending (f ds None))
   ending (Label f) = word (Marked M.Semicolon) (ending (f None))
   ending (Length f) = word (Marked M.Semicolon) (ending (f None))
+  ending (Buffer f) = []
   ending (Links s) = []
   ending (Messages s) = []
   ending (Cells s) = []
@@ -127,6 +128,7 @@ mutual
   ending_comes (Dirs ds f) = ending_comes (f ds None)
   ending_comes (Label f) = ending_comes (f None)
   ending_comes (Length f) = ending_comes (f None)
+  ending_comes (Buffer f) = (f 0 0, refl)
   ending_comes (Links s) = (s, refl)
   ending_comes (Messages s) = (s, refl)
   ending_comes (Cells s) = (s, refl)

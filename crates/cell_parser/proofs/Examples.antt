@@ -1,5 +1,5 @@
 -- The machine at two small sources.
-use Rattle.std.proofs.Common.{◌≡◌, ℕ, List, [], ◌∷◌, refl}
+use Rattle.std.proofs.Common.{◌≡◌, ℕ, List, [], ◌∷◌, ◌++◌, refl}
 use Rattle.std.specs.Prelude.{codes, Some, Ok, Err, map}
 use Rattle.sys_base.specs.declared.key.Key.TheVariants as K
 use Rattle.sys_base.specs.declared.kinds.Dir.TheVariants as D
@@ -42,6 +42,24 @@ settings ts =
 -- `array 1 x 2;` and `queues 3;` are a source.
 smallest : run start (settings []) ≡ Ok nothing
 smallest = refl
+
+-- With `buffer 3;` on a third line, behind them, they are one with that buffer.
+abbrev buffer_line : List Lexeme
+buffer_line = on 3 (Keyword K.Buffer ∷ Numeral 3 ∷ Marked M.Semicolon ∷ [])
+
+buffered : run start (settings buffer_line) ≡ Ok (record nothing { buffer = 3; buffer_line = 3 })
+buffered = refl
+
+-- A second `buffer` line leaves its three words, one before `queues` all that follows, and one without its number the
+-- semicolon.
+buffer_twice : run start (settings (buffer_line ++ buffer_line)) ≡ Err 3
+buffer_twice = refl
+
+buffer_first : run start (on 1 (Keyword K.Array ∷ Numeral 1 ∷ Named (codes "x") ∷ Numeral 2 ∷ Marked M.Semicolon ∷ []) ++ buffer_line) ≡ Err 3
+buffer_first = refl
+
+no_number : run start (settings (on 3 (Keyword K.Buffer ∷ Marked M.Semicolon ∷ []))) ≡ Err 1
+no_number = refl
 
 -- Without the last semicolon they are none, and no word is left.
 cut_off : run start (on 1 (Keyword K.Array ∷ Numeral 1 ∷ Named (codes "x") ∷ Numeral 2 ∷ [])) ≡ Err 0

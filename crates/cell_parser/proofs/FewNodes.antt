@@ -24,7 +24,7 @@ use Rattle.cell_tree.specs.declared.statement.Act.TheVariants as A
 use Rattle.cell_tree.specs.declared.statement.Act.TheVariants.{rolls-Set, rolls-SetAt, rolls-Write, rolls-Read, rolls-Take, rolls-Emit, rolls-For, rolls-If}
 use Rattle.cell_tree.specs.declared.statement.Act.TheViews.{roll-Act}
 use Rattle.cell_tree.specs.declared.statement.Stmt.{Stmt}
-use Rattle.cell_parser.specs.Grammar.{ReadsExpr, ReadsStmt, ReadsBody, Star, Reads, ReadsPlace, ReadsDir, ReadsRoute, ReadsLabel, ReadsLength, ReadsLink, ReadsMessage, ReadsVar, ReadsCell, on_line}
+use Rattle.cell_parser.specs.Grammar.{ReadsExpr, ReadsStmt, ReadsBody, Star, Reads, ReadsPlace, ReadsDir, ReadsRoute, ReadsLabel, ReadsLength, ReadsBuffer, ReadsLink, ReadsMessage, ReadsVar, ReadsCell, on_line}
 use Rattle.cell_parser.specs.Grammar as G
 use Rattle.cell_parser.specs.Lexeme.{Lexeme, lexemes}
 use Rattle.cell_parser.proofs.Outcomes.{lexemes_length}
@@ -138,6 +138,10 @@ length_few : {o : Option ℕ} {ts us : List Lexeme} → ReadsLength o ts us → 
 length_few G.no_length = omega arith
 length_few G.length = omega arith
 
+buffer_few : {b : ℕ × ℕ} {ts us : List Lexeme} → ReadsBuffer b ts us → Few 0 ts us
+buffer_few G.no_buffer = omega arith
+buffer_few G.buffer = omega arith
+
 link_few : {a : LinkDecl} {ts us : List Lexeme} → ReadsLink a ts us → Few 0 ts us
 link_few (G.link x y) = omega (arith, place_few x, dir_few y)
 
@@ -157,8 +161,8 @@ cells_few (G.next {a = c} {rest = cs} p q) =
     omega (arith, is, cell_few p, cells_few q)
 
 source_few : {ts : List Lexeme} {s : Source} → Reads ts s → source_nodes s ≤ length ts
-source_few (G.program x links messages cells) =
-    omega (arith, star_few ReadsLink (λ _ _ _ r. link_few r) links, star_few ReadsMessage (λ _ _ _ r. message_few r) messages, cells_few cells)
+source_few (G.program x setting links messages cells) =
+    omega (arith, buffer_few setting, star_few ReadsLink (λ _ _ _ r. link_few r) links, star_few ReadsMessage (λ _ _ _ r. message_few r) messages, cells_few cells)
 
 pub few_nodes : (text : List ℕ) (ts : List Token) (s : Source) → Reads (lexemes text ts) s → source_nodes s ≤ length ts
 few_nodes text ts s r = subst (λ n. source_nodes s ≤ n) (lexemes_length text ts) (source_few r)

@@ -4,7 +4,7 @@ use Rattle.cell_tree.specs.declared.source.Source.{Source}
 use Rattle.cell_parser.specs.FirstWrong.{Begins, FirstWrong}
 use Rattle.cell_parser.specs.Grammar.{Reads}
 use Rattle.cell_parser.specs.Lexeme.{Word, Lexeme, At}
-use Rattle.cell_parser.specs.Inner.Machine.{State, Links, Messages, Cells, at, finish, going, run, start}
+use Rattle.cell_parser.specs.Inner.Machine.{State, Buffer, Links, Messages, Cells, at, finish, going, run, start}
 use Rattle.cell_parser.proofs.Backward.{no_ok, one_ok, backward}
 use Rattle.cell_parser.proofs.Endings.{Comes, ending, ending_comes}
 use Rattle.cell_parser.proofs.Forward.{forward}
@@ -69,6 +69,7 @@ end_stops state left is =
     }
 
 end_left : (state : State) (left : ℕ) → finish state ≡ Err left → 0 ≡ left
+end_left (Buffer f) left h = no_err (f 0 0) left h
 end_left (Links s) left h = no_err s left h
 end_left (Messages s) left h = no_err s left h
 end_left (Cells s) left h = no_err s left h

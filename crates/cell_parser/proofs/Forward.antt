@@ -15,10 +15,10 @@ use Rattle.cell_tree.specs.declared.source.VarDecl.{VarDecl}
 use Rattle.cell_tree.specs.declared.statement.Act.TheVariants as A
 use Rattle.cell_tree.specs.declared.statement.Stmt.{Stmt}
 use Rattle.cell_parser.specs.Grammar as G
-use Rattle.cell_parser.specs.Grammar.{Class, Product, Additive, Comparison, Bracket, Other, class, Level, Whole, Sum, Term, Unary, Atom, ReadsExpr, ReadsStmt, ReadsBody, Star, done, next, ReadsPlace, ReadsDir, ReadsLabel, ReadsRoute, ReadsLength, ReadsLink, ReadsMessage, ReadsVar, ReadsCell, Reads, on_line}
+use Rattle.cell_parser.specs.Grammar.{Class, Product, Additive, Comparison, Bracket, Other, class, Level, Whole, Sum, Term, Unary, Atom, ReadsExpr, ReadsStmt, ReadsBody, Star, done, next, ReadsPlace, ReadsDir, ReadsLabel, ReadsRoute, ReadsLength, ReadsBuffer, ReadsLink, ReadsMessage, ReadsVar, ReadsCell, Reads, on_line}
 use Rattle.cell_parser.specs.Lexeme.{Word, Named, Numeral, Keyword, Marked, Lexeme, At}
 use Rattle.cell_parser.specs.Inner.Machine as Mach
-use Rattle.cell_parser.specs.Inner.Machine.{same_word, dir_of, Closer, ByParen, ByBracket, BySemicolon, ByBrace, closing, Around, InCell, InLoop, InYes, InNo, Open, Negates, Operand, Terms, Sums, Compares, Then, State, Want, WantAtom, Called, Have, Body, Target, Expect, ExpectName, ExpectNumber, ExpectKey, ExpectDir, Route, Dirs, Label, Length, Links, Messages, Cells, Vars, whole, closed, at_terms, at_sums, at_compares, at_called, at_dir, at_open, with_link, with_message, with_cell, with_var, at, step, finish, going, run, start}
+use Rattle.cell_parser.specs.Inner.Machine.{same_word, dir_of, Closer, ByParen, ByBracket, BySemicolon, ByBrace, closing, Around, InCell, InLoop, InYes, InNo, Open, Negates, Operand, Terms, Sums, Compares, Then, State, Want, WantAtom, Called, Have, Body, Target, Expect, ExpectName, ExpectNumber, ExpectKey, ExpectDir, Route, Dirs, Label, Length, Buffer, Links, Messages, Cells, Vars, whole, closed, at_terms, at_sums, at_compares, at_called, at_dir, at_open, with_link, with_message, with_cell, with_var, at, step, finish, going, run, start}
 use Rattle.cell_parser.proofs.Words.{dir_of_text}
 
 -- A word of this class ends an expression of this level.
@@ -294,26 +294,41 @@ no_more_links (next (G.message q r t v) w) x s = refl
 no_more_links done (next (G.cell q r t) v) s = refl
 no_more_links done done s = refl
 
+no_more_buffer : {xs : List LinkDecl} {ys : List MessageDecl} {zs : List CellDecl} {ts us vs : List Lexeme} → Star ReadsLink xs ts us
+    → Star ReadsMessage ys us vs → Star ReadsCell zs vs [] → (f : ℕ → ℕ → Source) → run (Buffer f) ts ≡ run (Links (f 0 0)) ts
+no_more_buffer (next (G.link q r) v) w x f = refl
+no_more_buffer done (next (G.message q r t v) w) x f = refl
+no_more_buffer done done (next (G.cell q r t) v) f = refl
+no_more_buffer done done done f = refl
+
+forward_buffer : {b : ℕ × ℕ} {xs : List LinkDecl} {ys : List MessageDecl} {zs : List CellDecl} {ts us vs ws : List Lexeme} → ReadsBuffer b ts us
+    → Star ReadsLink xs us vs → Star ReadsMessage ys vs ws → Star ReadsCell zs ws [] → (f : ℕ → ℕ → Source)
+    → run (Buffer f) ts ≡ run (Links (f b.0 b.1)) us
+forward_buffer G.no_buffer x y z f = no_more_buffer x y z f
+forward_buffer G.buffer x y z f = refl
+
 -- What is in the grammar is read by the machine.
 pub forward : {ts : List Lexeme} {s : Source} → Reads ts s → run start ts ≡ Ok s
-forward (G.program {l = l} {k = k} {j = j} {i = i} {h = h} {g = g} {f = f} {e = e} {r = r} {c = c} {q = q} {links = links} {messages = messages}
-    {cells = cells} {ts = ts} is x y z) =
-    let first : Source = record {
+forward (G.program {l = l} {k = k} {j = j} {i = i} {h = h} {g = g} {f = f} {e = e} {r = r} {c = c} {q = q} {b = b} {links = links}
+    {messages = messages} {cells = cells} {ts = ts} is p x y z) =
+    let settings : ℕ → ℕ → Source = λ n m. record {
       rows = r;
       cols = c;
       array_line = l;
       queues = q;
       queues_line = g;
-      buffer = 0;
-      buffer_line = 0;
+      buffer = n;
+      buffer_line = m;
       links = [];
       messages = [];
       cells = [];
     } in
+    let first : Source = settings b.0 b.1 in
     let second : Source = record first { links = links } in
     let third : Source = record second { messages = messages } in
     ap (λ n. run start (At l (Keyword K.Array) ∷ At k (Numeral r) ∷ At j (Named n) ∷ At i (Numeral c) ∷ At h (Marked M.Semicolon)
     ∷ At g (Keyword K.Queues) ∷ At f (Numeral q) ∷ At e (Marked M.Semicolon) ∷ ts)) is
+    ∙ forward_buffer p x y z settings
     ∙ forward_star ReadsLink (λ xs. Links (record first { links = xs })) (λ xs. forward_link (record first { links = xs })) x []
     ∙ no_more_links y z second
     ∙ forward_star ReadsMessage (λ xs. Messages (record second { messages = xs })) (λ xs. forward_message (record second { messages = xs })) y []

@@ -6,6 +6,7 @@ pub mod FewNodes
 pub mod FewerWords
 pub mod FirstWrongs
 pub mod Forward
+pub mod MadeNames
 pub mod Outcomes
 pub mod Overs
 pub mod PrintableAnswers

@@ -18,9 +18,9 @@ use Rattle.cell_parser.specs.Grammar.{Reads}
 use Rattle.cell_parser.specs.Lexeme.{word_of, Lexeme, At, lexemes}
 use Rattle.cell_parser.specs.Limits.{parts, piece_after, braces_after, KeepLimits}
 use Rattle.cell_parser.specs.Inner.Told.{Told, told_piece, told}
-use Rattle.cell_parser.proofs.FewerWords.{Fewer, fewer_none, fewer_same, fewer_open, fewer_close, Sound}
+use Rattle.cell_parser.proofs.FewerWords.{Fewer, fewer_none, fewer_same, fewer_open, fewer_close, fewer_line, Sound}
 use Rattle.cell_parser.proofs.PrintedLimits.{told_sorts, clear_alike}
-use Rattle.cell_parser.proofs.ReadSources.{source_read, no_buffer}
+use Rattle.cell_parser.proofs.ReadSources.{source_read}
 use Rattle.cell_parser.proofs.Rooms.{Room, sorts_of, kept_room, AllAlike, room_runs, room_braces}
 use Rattle.cell_parser.proofs.ToldClear.{source_words}
 use Rattle.cell_parser.proofs.ToldLegible.{told_sort, Fine}
@@ -72,6 +72,8 @@ fewer_room (fewer_same {w = w} p) less more braces le r = (
 )
 fewer_room (fewer_open p) less more braces le r = fewer_room p less (1 + more) braces (omega arith) r.2
 fewer_room (fewer_close p) less more braces le r = fewer_room p less (1 + more) braces (omega arith) r.2
+fewer_room (fewer_line p) less more braces le r =
+    (λ e. (let lt = r.0 e in omega arith), r.1, fewer_room p 0 0 braces (omega arith) r.2.2.2.2)
 
 module _ (separators : (sort : Sort) (b : ℕ) → IsTrue (is_space b) → prolongs sort b ≡ false)
     (decimals : (n : ℕ) → n ≤ greatest → Says (decimal n) (S.Number n)) where
@@ -88,7 +90,6 @@ module _ (separators : (sort : Sort) (b : ℕ) → IsTrue (is_space b) → prolo
       (subst (λ (sorts : List Sort). Room 0 0 sorts) (same_sorts text ts) (kept_room ts limits)) in record {
         names = All-from_recursion IsName (source_names s) names;
         numbers = All-from_recursion (λ n. n ≤ 9223372036854775807) (source_numbers s) numbers;
-        buffer = no_buffer reads;
         runs = subst (λ (ps : List Piece). IsTrue (runs_fit 0 (words_of ps))) (source_spelt s) (room_runs alike 0 0 room);
         braces = subst (λ (ps : List Piece). IsTrue (braces_fit 0 (words_of ps))) (source_spelt s) (room_braces alike 0 0 room);
       }

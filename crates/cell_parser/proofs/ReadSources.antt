@@ -1,6 +1,8 @@
--- The words of a source that was read are those that were read but for some parentheses, and are of the language.
-use Rattle.std.proofs.Common.{◌≡◌, ℕ, ◌++◌, List, [], ◌∷◌, map, Option, refl, subst, ap, arith}
+-- The words of a source that was read are those that were read but for some parentheses and a `buffer` line, and are of
+-- the language.
+use Rattle.std.proofs.Common.{◌≡◌, ℕ, ◌==◌, ◌≤◌, ◌++◌, Bool, true, false, List, [], ◌∷◌, map, Option, refl, subst, ap, arith}
 use Rattle.std.specs.List.{flat_map}
+use Rattle.std.specs.Prelude.{if◌then◌else◌}
 use Rattle.sys_base.specs.declared.key.Key.TheVariants as K
 use Rattle.sys_base.specs.declared.kinds.Dir.{Dir}
 use Rattle.cell_lexer.specs.declared.token.Mark.TheVariants as M
@@ -13,11 +15,11 @@ use Rattle.cell_tree.specs.declared.source.Place.{Place}
 use Rattle.cell_tree.specs.declared.source.Source.{Source}
 use Rattle.cell_tree.specs.declared.source.VarDecl.{VarDecl}
 use Rattle.cell_tree.specs.declared.statement.Stmt.{Stmt}
-use Rattle.cell_parser.specs.Grammar.{Star, Reads, ReadsPlace, ReadsDir, ReadsRoute, ReadsLabel, ReadsLength, ReadsLink, ReadsMessage, ReadsVar, ReadsCell}
+use Rattle.cell_parser.specs.Grammar.{Star, Reads, ReadsPlace, ReadsDir, ReadsRoute, ReadsLabel, ReadsLength, ReadsBuffer, ReadsLink, ReadsMessage, ReadsVar, ReadsCell}
 use Rattle.cell_parser.specs.Grammar as G
 use Rattle.cell_parser.specs.Lexeme.{Named, Numeral, Keyword, Marked, Lexeme, At}
-use Rattle.cell_parser.specs.Inner.Told.{Told, Tell, tell, tell_place, tell_dir, tell_link, tell_route, tell_label, tell_message, tell_length, tell_var, tell_statement, tell_cell, told}
-use Rattle.cell_parser.proofs.FewerWords.{Fewer, fewer_none, fewer_same, fewer_join, fewer_end, Sound, names_join, numbers_join}
+use Rattle.cell_parser.specs.Inner.Told.{Told, Tell, tell, tell_place, tell_dir, tell_link, tell_route, tell_label, tell_message, tell_length, tell_var, tell_statement, tell_setting, tell_buffer, tell_cell, told}
+use Rattle.cell_parser.proofs.FewerWords.{Fewer, fewer_none, fewer_same, fewer_line, fewer_join, fewer_end, Sound, names_join, numbers_join}
 use Rattle.cell_parser.proofs.ReadStatements.{BodyRead, body_read}
 use Rattle.cell_parser.proofs.ToldClear.{Names, Numbers, body_names, body_numbers, body_told}
 
@@ -160,28 +162,47 @@ cell_read (G.cell {p = p} {xs = xs} {b = b} x y z) =
           );
     }
 
--- the words of a source that was read are those that were read but for some parentheses
+-- The words of a `buffer` line, behind a semicolon, are those that were read, or it is left out.
+record BufferTelling (b : ℕ × ℕ) (ts us : List Lexeme) : Type 0 where
+  told : (e : ℕ) → Fewer (Tell none (Marked M.Semicolon) ∷ tell_buffer b.0) (At e (Marked M.Semicolon) ∷ ts) us
+  fine : Sound ts → (b.0 ≤ 9223372036854775807) × Sound us
+
+buffer_told : (n l k j e : ℕ) (us : List Lexeme) (left_out : Bool)
+    → Fewer (Tell none (Marked M.Semicolon) ∷ (if left_out then [] else tell_setting K.Buffer n))
+    (At e (Marked M.Semicolon) ∷ At l (Keyword K.Buffer) ∷ At k (Numeral n) ∷ At j (Marked M.Semicolon) ∷ us) us
+buffer_told n l k j e us true = fewer_line fewer_none
+buffer_told n l k j e us false = fewer_same (fewer_same (fewer_same (fewer_same fewer_none)))
+
+buffer_read : {b : ℕ × ℕ} {ts us : List Lexeme} → ReadsBuffer b ts us → BufferTelling b ts us
+buffer_read G.no_buffer = record { told = λ e. fewer_same fewer_none; fine = λ s. (omega arith, s) }
+buffer_read (G.buffer {l = l} {k = k} {j = j} {n = n} {us = us}) =
+    record { told = λ e. buffer_told n l k j e us (n == 0); fine = λ s. (s.1.0, s.1.1.1) }
+
+-- the words of a source that was read are those that were read but for some parentheses and a `buffer` line
 pub source_read : {s : Source} {ts : List Lexeme} → Reads ts s → Telling (told s) (source_names s) (source_numbers s) ts []
-source_read (G.program {l = l} {k = k} {j = j} {i = i} {h = h} {g = g} {f = f} {e = e} {r = r} {c = c} {q = q} {x = x}
-    {links = links} {messages = messages} {cells = cells} {ts = ts} is p m n) =
+source_read (G.program {l = l} {k = k} {j = j} {i = i} {h = h} {g = g} {f = f} {e = e} {r = r} {c = c} {q = q} {x = x} {b = b}
+    {links = links} {messages = messages} {cells = cells} {ts = ts} is o p m n) =
+    let zero = buffer_read o in
     let one = star_read ReadsLink tell_link (λ a. []) link_numbers (λ a ts us d. link_read d) p in
     let two = star_read ReadsMessage tell_message (λ a. a.name ∷ []) message_numbers (λ a ts us d. message_read d) m in
     let three = star_read ReadsCell tell_cell cell_names cell_numbers (λ a ts us d. cell_read d) n in
-    let lists : List Told = flat_map tell_link links ++ flat_map tell_message messages ++ flat_map tell_cell cells in
+    let rest : List Told =
+    (Tell none (Marked M.Semicolon) ∷ tell_buffer b.0) ++ flat_map tell_link links ++ flat_map tell_message messages ++ flat_map tell_cell cells in
     let Links : List ℕ = flat_map link_numbers links in
     let Messages : List ℕ = flat_map message_numbers messages in
     let Cells : List ℕ = flat_map cell_numbers cells in
     let P : List ℕ → Type 0 = λ name. Fewer
     (Tell none (Keyword K.Array) ∷ Tell space (Numeral r) ∷ Tell space (Named name) ∷ Tell space (Numeral c)
-    ∷ Tell none (Marked M.Semicolon) ∷ Tell (line 0) (Keyword K.Queues) ∷ Tell space (Numeral q) ∷ Tell none (Marked M.Semicolon) ∷ lists)
+    ∷ Tell none (Marked M.Semicolon) ∷ Tell (line 0) (Keyword K.Queues) ∷ Tell space (Numeral q) ∷ rest)
     (At l (Keyword K.Array) ∷ At k (Numeral r) ∷ At j (Named x) ∷ At i (Numeral c) ∷ At h (Marked M.Semicolon)
     ∷ At g (Keyword K.Queues) ∷ At f (Numeral q) ∷ At e (Marked M.Semicolon) ∷ ts) [] in record {
-      told = subst P is (fewer_same (fewer_same (fewer_same (fewer_same (fewer_same (fewer_same (fewer_same (fewer_same
-          (fewer_join (fewer_join one.told two.told) three.told)))))))));
+      told = subst P is (fewer_same (fewer_same (fewer_same (fewer_same (fewer_same (fewer_same (fewer_same
+          (fewer_join (fewer_join (fewer_join (zero.told e) one.told) two.told) three.told))))))));
       fine = λ s.
-          let (a, x, t) = one.fine s.1.1.1.1.1.1.1.1 in
-          let (b, y, u) = two.fine t in
-          let (d, z, v) = three.fine u in (
+          let (k, t) = zero.fine s.1.1.1.1.1.1.1.1 in
+          let (a, x, u) = one.fine t in
+          let (b, y, v) = two.fine u in
+          let (d, z, w) = three.fine v in (
             names_join (map (λ (m : MessageDecl). m.name) messages) (flat_map cell_names cells)
                 (subst (λ (ns : List (List ℕ)). Names ns) (named_once (λ (m : MessageDecl). m.name) messages) b) d,
             (
@@ -191,16 +212,12 @@ source_read (G.program {l = l} {k = k} {j = j} {i = i} {h = h} {g = g} {f = f} {
                 (
                   s.1.1.1.1.1.1.0,
                   (
-                    omega arith,
+                    k,
                     numbers_join (Links ++ Messages) Cells (numbers_join Links Messages x y) z,
                   ),
                 ),
               ),
             ),
-            v,
+            w,
           );
     }
-
--- what is read has no `buffer` line
-pub no_buffer : {s : Source} {ts : List Lexeme} → Reads ts s → s.buffer ≡ 0
-no_buffer (G.program is p m n) = refl

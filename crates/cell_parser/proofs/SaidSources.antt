@@ -1,7 +1,7 @@
 -- The words of a source's canonical text are those of a source, the same but for its lines.
-use Rattle.std.proofs.Common.{◌≡◌, ℕ, ◌++◌, List, [], ◌∷◌, map, Option, Some, None, refl, sym, subst, ap, ◌∙◌}
+use Rattle.std.proofs.Common.{◌≡◌, ℕ, ◌==◌, ◌++◌, Bool, true, false, List, [], ◌∷◌, map, Option, Some, None, refl, sym, subst, ap, ◌∙◌, append_assoc, eqb-true}
 use Rattle.std.specs.List.{flat_map}
-use Rattle.std.specs.Prelude.{codes}
+use Rattle.std.specs.Prelude.{codes, if◌then◌else◌}
 use Rattle.sys_base.specs.declared.key.Key.TheVariants as K
 use Rattle.sys_base.specs.declared.kinds.Dir.{Dir}
 use Rattle.cell_lexer.specs.declared.token.Mark.TheVariants as M
@@ -12,11 +12,11 @@ use Rattle.cell_tree.specs.declared.source.MessageDecl.{MessageDecl}
 use Rattle.cell_tree.specs.declared.source.Source.{Source}
 use Rattle.cell_tree.specs.declared.source.VarDecl.{VarDecl}
 use Rattle.cell_tree.specs.declared.statement.Stmt.{Stmt}
-use Rattle.cell_parser.specs.Grammar.{Star, Reads, ReadsDir, ReadsRoute, ReadsLabel, ReadsLength, ReadsLink, ReadsMessage, ReadsVar, ReadsCell}
+use Rattle.cell_parser.specs.Grammar.{Star, Reads, ReadsDir, ReadsRoute, ReadsLabel, ReadsLength, ReadsBuffer, ReadsLink, ReadsMessage, ReadsVar, ReadsCell}
 use Rattle.cell_parser.specs.Grammar as G
 use Rattle.cell_parser.specs.Lexeme.{Named, Numeral, Keyword, Marked, Lexeme, At}
 use Rattle.cell_parser.specs.Printed.{spoken, Covers, unlined_statement, unlined_cell, unlined}
-use Rattle.cell_parser.specs.Inner.Told.{Told, tell_array, tell_setting, tell_buffer, tell_dir, tell_link, tell_route, tell_label, tell_message, tell_length, tell_var, tell_statement, tell_cell, told}
+use Rattle.cell_parser.specs.Inner.Told.{Told, tell_setting, tell_buffer, tell_settings, tell_dir, tell_link, tell_route, tell_label, tell_message, tell_length, tell_var, tell_statement, tell_cell, told}
 use Rattle.cell_parser.proofs.SaidWords.{Said, said_none, said_next, said_of, split, split_end}
 use Rattle.cell_parser.proofs.SaidStatements.{statements_said}
 
@@ -87,17 +87,26 @@ cell_said cell ts us (said_next {l = l} (said_next (said_next (said_next (said_n
     let Body : List Stmt → CellDecl = λ xs. record cell { vars = map var_left cell.vars; body = xs; line = 0 } in
     (record cell { vars = vars; body = inner; line = l }, G.cell G.place p s, ap Vars q ∙ ap Body t)
 
-lists_said : (s : Source) → s.buffer ≡ 0 → (l k j i h g f e : ℕ) (ts : List Lexeme)
-    → Said (flat_map tell_link s.links ++ flat_map tell_message s.messages ++ flat_map tell_cell s.cells) ts []
+-- The number and the line of a `buffer` line are read, with this number.
+abbrev BufferRead : ℕ → List Lexeme → List Lexeme → Type 0
+BufferRead n ts us = (b : ℕ × ℕ) × ReadsBuffer b ts us × (b.0 ≡ n)
+
+buffer_said : (n : ℕ) (none_told : Bool) → (n == 0) ≡ none_told → (ts us : List Lexeme)
+    → Said (if none_told then [] else tell_setting K.Buffer n) ts us → BufferRead n ts us
+buffer_said n true e ts us said_none = ((0, 0), G.no_buffer, sym (eqb-true n 0 e))
+buffer_said n false e ts us (said_next {l = l} (said_next (said_next said_none))) = ((n, l), G.buffer, refl)
+
+lists_said : (s : Source) (l k j i h g f e : ℕ) (ts us : List Lexeme) → BufferRead s.buffer ts us
+    → Said (flat_map tell_link s.links ++ flat_map tell_message s.messages ++ flat_map tell_cell s.cells) us []
     → (t : Source) × Reads
     (At l (Keyword K.Array) ∷ At k (Numeral s.rows) ∷ At j (Named (codes "x")) ∷ At i (Numeral s.cols) ∷ At h (Marked M.Semicolon)
     ∷ At g (Keyword K.Queues) ∷ At f (Numeral s.queues) ∷ At e (Marked M.Semicolon) ∷ ts) t × (unlined t ≡ unlined s)
-lists_said s none_given l k j i h g f e ts c =
-    let (vs, a, b) = split (flat_map tell_link s.links ++ flat_map tell_message s.messages) (flat_map tell_cell s.cells) c in
-    let (us, x, y) = split (flat_map tell_link s.links) (flat_map tell_message s.messages) a in
-    let (links, p, q) = stars_said ReadsLink tell_link link_left link_said s.links ts us x in
-    let (messages, r, m) = stars_said ReadsMessage tell_message message_left message_said s.messages us vs y in
-    let (cells, t, n) = stars_said ReadsCell tell_cell unlined_cell cell_said s.cells vs [] b in
+lists_said s l k j i h g f e ts us (b, o, d) c =
+    let (ws, a, z) = split (flat_map tell_link s.links ++ flat_map tell_message s.messages) (flat_map tell_cell s.cells) c in
+    let (vs, x, y) = split (flat_map tell_link s.links) (flat_map tell_message s.messages) a in
+    let (links, p, q) = stars_said ReadsLink tell_link link_left link_said s.links us vs x in
+    let (messages, r, m) = stars_said ReadsMessage tell_message message_left message_said s.messages vs ws y in
+    let (cells, t, n) = stars_said ReadsCell tell_cell unlined_cell cell_said s.cells ws [] z in
     let Made : ℕ → List LinkDecl → List MessageDecl → List CellDecl → Source = λ buffer ls ms cs. record {
       rows = s.rows;
       cols = s.cols;
@@ -116,31 +125,39 @@ lists_said s none_given l k j i h g f e ts c =
         array_line = l;
         queues = s.queues;
         queues_line = g;
-        buffer = 0;
-        buffer_line = 0;
+        buffer = b.0;
+        buffer_line = b.1;
         links = links;
         messages = messages;
         cells = cells;
       },
-      G.program refl p r t,
-      ap (λ b. Made b (map link_left links) (map message_left messages) (map unlined_cell cells)) (sym none_given)
+      G.program refl o p r t,
+      ap (λ n. Made n (map link_left links) (map message_left messages) (map unlined_cell cells)) d
           ∙ ap (λ ls. Made s.buffer ls (map message_left messages) (map unlined_cell cells)) q
           ∙ ap (λ ms. Made s.buffer (map link_left s.links) ms (map unlined_cell cells)) m
           ∙ ap (λ cs. Made s.buffer (map link_left s.links) (map message_left s.messages) cs) n,
     )
 
-settings_said : (s : Source) → s.buffer ≡ 0 → (ts : List Lexeme)
-    → Said (tell_array s ++ tell_setting K.Queues s.queues ++ [] ++ flat_map tell_link s.links ++ flat_map tell_message s.messages
-    ++ flat_map tell_cell s.cells) ts []
+settings_said : (s : Source) (ts : List Lexeme)
+    → Said (tell_settings s ++ (flat_map tell_link s.links ++ flat_map tell_message s.messages ++ flat_map tell_cell s.cells)) ts []
     → (t : Source) × Reads ts t × (unlined t ≡ unlined s)
-settings_said s none_given ts
+settings_said s ts
     (said_next {l = l} (said_next {l = k} (said_next {l = j} (said_next {l = i} (said_next {l = h}
-    (said_next {l = g} (said_next {l = f} (said_next {l = e} {ts = us} r)))))))) = lists_said s none_given l k j i h g f e us r
+    (said_next {l = g} (said_next {l = f} (said_next {l = e} {ts = us} r)))))))) =
+    let lists : List Told = flat_map tell_link s.links ++ flat_map tell_message s.messages ++ flat_map tell_cell s.cells in
+    let (vs, a, b) = split (tell_buffer s.buffer) lists r in
+    lists_said s l k j i h g f e us vs (buffer_said s.buffer (s.buffer == 0) refl us vs a) b
+
+-- the words of a source are those of its settings and then those of its lists
+apart : (s : Source)
+    → told s ≡ tell_settings s ++ (flat_map tell_link s.links ++ flat_map tell_message s.messages ++ flat_map tell_cell s.cells)
+apart s =
+    let A : List Told = tell_settings s in
+    let L : List Told = flat_map tell_link s.links in
+    let M : List Told = flat_map tell_message s.messages in
+    let C : List Told = flat_map tell_cell s.cells in
+    ap (λ (xs : List Told). xs ++ C) (append_assoc A L M) ∙ append_assoc A (L ++ M) C
 
 -- lexemes that say just the words of a source are those of a source, the same but for its lines
-pub source_said : (s : Source) → s.buffer ≡ 0 → (ts : List Lexeme) → Covers (spoken s) ts []
-    → (t : Source) × Reads ts t × (unlined t ≡ unlined s)
-source_said s none_given ts c =
-    let P : ℕ → Type 0 = λ n. Said (tell_array s ++ tell_setting K.Queues s.queues ++ tell_buffer n ++ flat_map tell_link s.links
-    ++ flat_map tell_message s.messages ++ flat_map tell_cell s.cells) ts [] in
-    settings_said s none_given ts (subst P none_given (said_of (told s) c))
+pub source_said : (s : Source) (ts : List Lexeme) → Covers (spoken s) ts [] → (t : Source) × Reads ts t × (unlined t ≡ unlined s)
+source_said s ts c = settings_said s ts (subst (λ (ps : List Told). Said ps ts []) (apart s) (said_of (told s) c))

@@ -8,9 +8,9 @@ use Rattle.cell_tree.specs.declared.expression.Expr.TheVariants as E
 use Rattle.cell_tree.specs.declared.source.Source.{Source}
 use Rattle.cell_tree.specs.declared.statement.Act.TheVariants as A
 use Rattle.cell_tree.specs.declared.statement.Stmt.{Stmt}
-use Rattle.cell_parser.specs.Grammar.{Level, Whole, Sum, Term, Unary, Atom, ReadsExpr, ReadsStmt, ReadsBody, Star, ReadsDir, ReadsLink, ReadsRoute, ReadsLabel, ReadsMessage, ReadsLength, ReadsVar, ReadsCell, on_line}
+use Rattle.cell_parser.specs.Grammar.{Level, Whole, Sum, Term, Unary, Atom, ReadsExpr, ReadsStmt, ReadsBody, Star, ReadsDir, ReadsBuffer, ReadsLink, ReadsRoute, ReadsLabel, ReadsMessage, ReadsLength, ReadsVar, ReadsCell, on_line}
 use Rattle.cell_parser.specs.Lexeme.{Word, Named, Numeral, Keyword, Marked, Lexeme, At}
-use Rattle.cell_parser.specs.Inner.Machine.{Around, InCell, InLoop, InYes, InNo, closing, Open, Negates, Operand, Terms, Sums, Compares, Then, State, Want, WantAtom, Called, Have, Body, Target, Expect, ExpectName, ExpectNumber, ExpectKey, ExpectDir, Route, Dirs, Label, Length, Links, Messages, Cells, Vars, with_cell}
+use Rattle.cell_parser.specs.Inner.Machine.{Around, InCell, InLoop, InYes, InNo, closing, Open, Negates, Operand, Terms, Sums, Compares, Then, State, Want, WantAtom, Called, Have, Body, Target, Expect, ExpectName, ExpectNumber, ExpectKey, ExpectDir, Route, Dirs, Label, Length, Buffer, Links, Messages, Cells, Vars, with_cell}
 
 -- This word stands first, and after it something holds.
 pub data Takes (w : Word) (P : List Lexeme → Type 0) : List Lexeme → Type 0 where
@@ -105,6 +105,7 @@ abbrev mutual
       Part (Star ReadsDir) (λ r us. Part ReadsLabel (λ o vs. Takes (Marked M.Semicolon) (λ ws. Sentence p (f (ds ++ r) o) ws) vs) us) ts
   Sentence p (Label f) ts = Part ReadsLabel (λ o us. Takes (Marked M.Semicolon) (λ vs. Sentence p (f o) vs) us) ts
   Sentence p (Length f) ts = Part ReadsLength (λ o us. Takes (Marked M.Semicolon) (λ vs. Sentence p (f o) vs) us) ts
+  Sentence p (Buffer f) ts = Part ReadsBuffer (λ b us. LinksGo p (f b.0 b.1) us) ts
   Sentence p (Links s) ts = LinksGo p s ts
   Sentence p (Messages s) ts = MessagesGo p s ts
   Sentence p (Cells s) ts = CellsGo p s ts

@@ -56,5 +56,5 @@ module _ (separators : (sort : Sort) (b : ℕ) → IsTrue (is_space b) → prolo
         → (t : Source) × Reads (lexemes (canonical s) ts) t × (unlined t ≡ unlined s)
     canonical_reads s p ts h =
         let e : ts ≡ canonical_tokens s = one (canonical s) ts (canonical_tokens s) h (canonical_stands s p) in
-        source_said s p.buffer (lexemes (canonical s) ts)
+        source_said s (lexemes (canonical s) ts)
         (subst (λ (us : List Token). Covers (spoken s) (lexemes (canonical s) us) []) (sym e) (canonical_heard s))

@@ -154,6 +154,14 @@ pub data ReadsDir : Dir → List Lexeme → List Lexeme → Type 0 where
   -- "N" | "E" | "S" | "W"
   dir : {l : ℕ} {n : List ℕ} {d : Dir} {us : List Lexeme} → n ≡ dir_text d → ReadsDir d (At l (Named n) ∷ us) us
 
+-- The words read to the number and the line of a `buffer` line, where one is given, and otherwise to 0 and 0.
+pub data ReadsBuffer : ℕ × ℕ → List Lexeme → List Lexeme → Type 0 where
+  -- nothing
+  no_buffer : {us : List Lexeme} → ReadsBuffer (0, 0) us us
+  -- "buffer" number ";"
+  buffer : {l k j n : ℕ} {us : List Lexeme}
+      → ReadsBuffer (n, l) (At l (Keyword K.Buffer) ∷ At k (Numeral n) ∷ At j (Marked M.Semicolon) ∷ us) us
+
 -- The words read to a `link` line.
 pub data ReadsLink : LinkDecl → List Lexeme → List Lexeme → Type 0 where
   -- "link" place dir "queues" number ";"
@@ -210,10 +218,10 @@ pub data ReadsCell : CellDecl → List Lexeme → List Lexeme → Type 0 where
 
 -- The words are those of a source, with nothing after them.
 pub data Reads : List Lexeme → Source → Type 0 where
-  -- "array" number "x" number ";" "queues" number ";" linkdecl* message* celldecl*
-  program : {l k j i h g f e r c q : ℕ} {x : List ℕ} {links : List LinkDecl} {messages : List MessageDecl} {cells : List CellDecl}
-      {ts us vs : List Lexeme} → x ≡ codes "x" → Star ReadsLink links ts us → Star ReadsMessage messages us vs
-      → Star ReadsCell cells vs []
+  -- "array" number "x" number ";" "queues" number ";" ("buffer" number ";")? linkdecl* message* celldecl*
+  program : {l k j i h g f e r c q : ℕ} {x : List ℕ} {b : ℕ × ℕ} {links : List LinkDecl} {messages : List MessageDecl}
+      {cells : List CellDecl} {ts us vs ws : List Lexeme} → x ≡ codes "x" → ReadsBuffer b ts us
+      → Star ReadsLink links us vs → Star ReadsMessage messages vs ws → Star ReadsCell cells ws []
       → Reads
       (At l (Keyword K.Array) ∷ At k (Numeral r) ∷ At j (Named x) ∷ At i (Numeral c) ∷ At h (Marked M.Semicolon)
       ∷ At g (Keyword K.Queues) ∷ At f (Numeral q) ∷ At e (Marked M.Semicolon) ∷ ts)
@@ -223,8 +231,8 @@ pub data Reads : List Lexeme → Source → Type 0 where
         array_line = l;
         queues = q;
         queues_line = g;
-        buffer = 0;
-        buffer_line = 0;
+        buffer = b.0;
+        buffer_line = b.1;
         links = links;
         messages = messages;
         cells = cells;

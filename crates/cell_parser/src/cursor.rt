@@ -7,6 +7,7 @@ ghost use Rattle.cell_parser.specs.Inner.Machine.{dir_of, ExpectName, ExpectNumb
 ghost use Rattle.cell_parser.specs.Inner.Reading.{AreTokens, Begins, Lacks, IsRead, IsStuck, Takes, Misses};
 
 use crate::fault::Fault;
+use crate::names::Names;
 use cell_lexer::{Key, Mark, Sort, Token};
 use std::alloc::Global;
 use sys_base::{Dir, Name};
@@ -168,9 +169,10 @@ pub(crate) fn next_name<'a, 'b>(
 }
 
 /// A name that has to come first, and the tokens after it.
-pub(crate) fn name<'a>(
+pub(crate) fn name<'t, 'a>(
     alloc: Global,
-    text: &[u8],
+    names: &mut Names<'t>,
+    text: &'t [u8],
     tokens: &'a [Token],
 ) -> Result<(Name, &'a [Token]), Fault>
     requires { AreTokens text.now tokens.now }
@@ -180,21 +182,9 @@ pub(crate) fn name<'a>(
     ensures kept { IfOk result (λ r. AreTokens text.now r.1.now) }
 {
     match next_name(text, tokens) {
-        Some((bytes, _, rest)) => Ok((named(alloc, bytes)?, rest)),
+        Some((bytes, _, rest)) => Ok((names.named(alloc, bytes)?, rest)),
         None => Err(unexpected(tokens)),
     }
-}
-
-/// The name with these bytes.
-pub(crate) fn named(alloc: Global, bytes: &[u8]) -> Result<Name, Fault>
-    requires { IsName bytes.now }
-    ensures name { IfOk result (λ n. n ≡ bytes.now) }
-    ensures wrong { IfErr result (λ e. e ≡ Fault.Memory) }
-{
-    let Some(name) = Name::new(alloc, bytes)? else {
-        unreachable!()
-    };
-    Ok(name)
 }
 
 /// The word `x`, which has to come first, and the tokens after it.

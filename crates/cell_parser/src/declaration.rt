@@ -8,6 +8,7 @@ ghost use Rattle.cell_parser.specs.Inner.Reading.{AreTokens};
 
 use crate::cursor::{after_key, direction, expect, expect_key, name};
 use crate::fault::Fault;
+use crate::names::Names;
 use crate::parts::{label, length, place, route, setting};
 use crate::statement::body;
 use cell_lexer::{Key, Mark, Token};
@@ -42,9 +43,10 @@ pub(crate) fn link<'a>(
 }
 
 /// A `message` line after its first word, which stands on this line of the text, and the tokens after it.
-pub(crate) fn message<'a>(
+pub(crate) fn message<'t, 'a>(
     alloc: Global,
-    text: &[u8],
+    names: &mut Names<'t>,
+    text: &'t [u8],
     tokens: &'a [Token],
     line: u32,
 ) -> Result<(MessageDecl, &'a [Token]), Fault>
@@ -55,7 +57,7 @@ pub(crate) fn message<'a>(
     ensures shorter { IfOk result (λ r. length r.1.now < length tokens.now) }
     ensures kept { IfOk result (λ r. AreTokens text.now r.1.now) }
 {
-    let (name, rest) = name(alloc, text, tokens)?;
+    let (name, rest) = name(alloc, names, text, tokens)?;
     let rest = expect_key(Key::From, rest)?;
     let (from, rest) = place(rest)?;
     let rest = expect_key(Key::To, rest)?;
@@ -74,9 +76,10 @@ pub(crate) fn message<'a>(
 }
 
 /// A `var` line after its first word, which stands on this line of the text, and the tokens after it.
-fn variable<'a>(
+fn variable<'t, 'a>(
     alloc: Global,
-    text: &[u8],
+    names: &mut Names<'t>,
+    text: &'t [u8],
     tokens: &'a [Token],
     line: u32,
 ) -> Result<(VarDecl, &'a [Token]), Fault>
@@ -89,15 +92,16 @@ fn variable<'a>(
     ensures shorter { IfOk result (λ r. length r.1.now < length tokens.now) }
     ensures kept { IfOk result (λ r. AreTokens text.now r.1.now) }
 {
-    let (name, rest) = name(alloc, text, tokens)?;
+    let (name, rest) = name(alloc, names, text, tokens)?;
     let (length, rest) = length(rest)?;
     Ok((VarDecl { name, length, line }, rest))
 }
 
 /// The `var` lines that come first, and the tokens after them.
-fn variables<'a>(
+fn variables<'t, 'a>(
     alloc: Global,
-    text: &[u8],
+    names: &mut Names<'t>,
+    text: &'t [u8],
     tokens: &'a [Token],
 ) -> Result<(Items<VarDecl>, &'a [Token]), Fault>
     requires { AreTokens text.now tokens.now }
@@ -111,7 +115,7 @@ fn variables<'a>(
     let mut vars = Items::new(alloc);
     let mut rest = tokens;
     'each: while let Some((line, after)) = after_key(Key::Var, rest) {
-        let (var, next) = variable(alloc, text, after, line)?;
+        let (var, next) = variable(alloc, names, text, after, line)?;
         vars.push(var)?;
         rest = next;
     }
@@ -119,9 +123,10 @@ fn variables<'a>(
 }
 
 /// A cell after its first word, which stands on this line of the text, and the tokens after it.
-pub(crate) fn cell<'a>(
+pub(crate) fn cell<'t, 'a>(
     alloc: Global,
-    text: &[u8],
+    names: &mut Names<'t>,
+    text: &'t [u8],
     tokens: &'a [Token],
     line: u32,
 ) -> Result<(CellDecl, &'a [Token]), Fault>
@@ -134,8 +139,8 @@ pub(crate) fn cell<'a>(
 {
     let (place, rest) = place(tokens)?;
     let rest = expect(Mark::OpenBrace, rest)?;
-    let (vars, rest) = variables(alloc, text, rest)?;
-    let (body, rest) = body(alloc, text, rest)?;
+    let (vars, rest) = variables(alloc, names, text, rest)?;
+    let (body, rest) = body(alloc, names, text, rest)?;
     let cell = CellDecl {
         place,
         vars,

@@ -2,8 +2,9 @@ ghost use Rattle.std.specs.Prelude.{◌≡◌, ℕ, ◌<◌, ◌≤◌, length, 
 ghost use Rattle.cell_parser.specs.Inner.Machine.{Called, Want, WantAtom};
 ghost use Rattle.cell_parser.specs.Inner.Reading.{AreTokens, IsOperand, NoOperand, IsWhole, NoWhole, a_term, a_sum, a_whole};
 
-use crate::cursor::{after_mark, expect, named, next_name, next_number, unexpected};
+use crate::cursor::{after_mark, expect, next_name, next_number, unexpected};
 use crate::fault::Fault;
+use crate::names::Names;
 use crate::operator::{additive, comparison, index, minus, product};
 use cell_lexer::{Mark, Token};
 use cell_tree::Expr;
@@ -13,10 +14,11 @@ use sys_base::{Name, Op};
 
 /// A whole expression with this mark after it, and the tokens after that.
 #[cycle(expression)]
-pub(crate) fn expression<'a>(
+pub(crate) fn expression<'t, 'a>(
     alloc: Global,
+    names: &mut Names<'t>,
     end: Mark,
-    text: &[u8],
+    text: &'t [u8],
     tokens: &'a [Token],
 ) -> Result<(Expr, &'a [Token]), Fault>
     requires { AreTokens text.now tokens.now }
@@ -25,24 +27,29 @@ pub(crate) fn expression<'a>(
     ensures shorter { IfOk result (λ r. length r.1.now < length tokens.now) }
     ensures kept { IfOk result (λ r. AreTokens text.now r.1.now) }
 {
-    let (value, rest) = whole(alloc, text, tokens)?;
+    let (value, rest) = whole(alloc, names, text, tokens)?;
     let rest = expect(end, rest)?;
     Ok((value, rest))
 }
 
 /// A comparison or a sum, and the tokens after it.
 #[cycle(expression)]
-fn whole<'a>(alloc: Global, text: &[u8], tokens: &'a [Token]) -> Result<(Expr, &'a [Token]), Fault>
+fn whole<'t, 'a>(
+    alloc: Global,
+    names: &mut Names<'t>,
+    text: &'t [u8],
+    tokens: &'a [Token],
+) -> Result<(Expr, &'a [Token]), Fault>
     requires { AreTokens text.now tokens.now }
     ensures read { IfOk result (λ r. IsOperand text.now a_whole tokens.now r.0 r.1.now) }
     ensures wrong { IfErr result (λ e. NoOperand text.now a_whole tokens.now e) }
     ensures shorter { IfOk result (λ r. length r.1.now < length tokens.now) }
     ensures kept { IfOk result (λ r. AreTokens text.now r.1.now) }
 {
-    let (left, rest) = sum(alloc, text, tokens)?;
+    let (left, rest) = sum(alloc, names, text, tokens)?;
     match comparison(rest) {
         Some((op, after)) => {
-            let (right, next) = sum(alloc, text, after)?;
+            let (right, next) = sum(alloc, names, text, after)?;
             Ok((binary(alloc, op, left, right)?, next))
         }
         None => Ok((left, rest)),
@@ -51,16 +58,21 @@ fn whole<'a>(alloc: Global, text: &[u8], tokens: &'a [Token]) -> Result<(Expr, &
 
 /// A sum, and the tokens after it.
 #[cycle(expression)]
-fn sum<'a>(alloc: Global, text: &[u8], tokens: &'a [Token]) -> Result<(Expr, &'a [Token]), Fault>
+fn sum<'t, 'a>(
+    alloc: Global,
+    names: &mut Names<'t>,
+    text: &'t [u8],
+    tokens: &'a [Token],
+) -> Result<(Expr, &'a [Token]), Fault>
     requires { AreTokens text.now tokens.now }
     ensures read { IfOk result (λ r. IsOperand text.now a_sum tokens.now r.0 r.1.now) }
     ensures wrong { IfErr result (λ e. NoOperand text.now a_sum tokens.now e) }
     ensures shorter { IfOk result (λ r. length r.1.now < length tokens.now) }
     ensures kept { IfOk result (λ r. AreTokens text.now r.1.now) }
 {
-    let (mut left, mut rest) = term(alloc, text, tokens)?;
+    let (mut left, mut rest) = term(alloc, names, text, tokens)?;
     'each: while let Some((op, after)) = additive(rest) {
-        let (right, next) = term(alloc, text, after)?;
+        let (right, next) = term(alloc, names, text, after)?;
         left = binary(alloc, op, left, right)?;
         rest = next;
     }
@@ -69,16 +81,21 @@ fn sum<'a>(alloc: Global, text: &[u8], tokens: &'a [Token]) -> Result<(Expr, &'a
 
 /// A term, and the tokens after it.
 #[cycle(expression)]
-fn term<'a>(alloc: Global, text: &[u8], tokens: &'a [Token]) -> Result<(Expr, &'a [Token]), Fault>
+fn term<'t, 'a>(
+    alloc: Global,
+    names: &mut Names<'t>,
+    text: &'t [u8],
+    tokens: &'a [Token],
+) -> Result<(Expr, &'a [Token]), Fault>
     requires { AreTokens text.now tokens.now }
     ensures read { IfOk result (λ r. IsOperand text.now a_term tokens.now r.0 r.1.now) }
     ensures wrong { IfErr result (λ e. NoOperand text.now a_term tokens.now e) }
     ensures shorter { IfOk result (λ r. length r.1.now < length tokens.now) }
     ensures kept { IfOk result (λ r. AreTokens text.now r.1.now) }
 {
-    let (mut left, mut rest) = unary(alloc, text, tokens)?;
+    let (mut left, mut rest) = unary(alloc, names, text, tokens)?;
     'each: while let Some((op, after)) = product(rest) {
-        let (right, next) = unary(alloc, text, after)?;
+        let (right, next) = unary(alloc, names, text, after)?;
         left = binary(alloc, op, left, right)?;
         rest = next;
     }
@@ -87,7 +104,12 @@ fn term<'a>(alloc: Global, text: &[u8], tokens: &'a [Token]) -> Result<(Expr, &'
 
 /// An operand with a minus or without, and the tokens after it.
 #[cycle(expression)]
-fn unary<'a>(alloc: Global, text: &[u8], tokens: &'a [Token]) -> Result<(Expr, &'a [Token]), Fault>
+fn unary<'t, 'a>(
+    alloc: Global,
+    names: &mut Names<'t>,
+    text: &'t [u8],
+    tokens: &'a [Token],
+) -> Result<(Expr, &'a [Token]), Fault>
     requires { AreTokens text.now tokens.now }
     ensures read { IfOk result (λ r. IsOperand text.now Want tokens.now r.0 r.1.now) }
     ensures wrong { IfErr result (λ e. NoOperand text.now Want tokens.now e) }
@@ -96,16 +118,21 @@ fn unary<'a>(alloc: Global, text: &[u8], tokens: &'a [Token]) -> Result<(Expr, &
 {
     match minus(tokens) {
         Some(after) => {
-            let (operand, rest) = atom(alloc, text, after)?;
+            let (operand, rest) = atom(alloc, names, text, after)?;
             Ok((negate(alloc, operand)?, rest))
         }
-        None => atom(alloc, text, tokens),
+        None => atom(alloc, names, text, tokens),
     }
 }
 
 /// An operand without a minus, and the tokens after it.
 #[cycle(expression)]
-fn atom<'a>(alloc: Global, text: &[u8], tokens: &'a [Token]) -> Result<(Expr, &'a [Token]), Fault>
+fn atom<'t, 'a>(
+    alloc: Global,
+    names: &mut Names<'t>,
+    text: &'t [u8],
+    tokens: &'a [Token],
+) -> Result<(Expr, &'a [Token]), Fault>
     requires { AreTokens text.now tokens.now }
     ensures read { IfOk result (λ r. IsOperand text.now WantAtom tokens.now r.0 r.1.now) }
     ensures wrong { IfErr result (λ e. NoOperand text.now WantAtom tokens.now e) }
@@ -116,20 +143,21 @@ fn atom<'a>(alloc: Global, text: &[u8], tokens: &'a [Token]) -> Result<(Expr, &'
         return Ok((Expr::Number(number), rest));
     }
     if let Some((bytes, _, rest)) = next_name(text, tokens) {
-        let name = named(alloc, bytes)?;
-        return called(alloc, text, name, rest);
+        let name = names.named(alloc, bytes)?;
+        return called(alloc, names, text, name, rest);
     }
     match after_mark(Mark::OpenParen, tokens) {
-        Some(after) => expression(alloc, Mark::CloseParen, text, after),
+        Some(after) => expression(alloc, names, Mark::CloseParen, text, after),
         None => Err(unexpected(tokens)),
     }
 }
 
 /// The operand that begins with this name, and the tokens after it.
 #[cycle(expression)]
-fn called<'a>(
+fn called<'t, 'a>(
     alloc: Global,
-    text: &[u8],
+    names: &mut Names<'t>,
+    text: &'t [u8],
     name: Name,
     tokens: &'a [Token],
 ) -> Result<(Expr, &'a [Token]), Fault>
@@ -141,7 +169,7 @@ fn called<'a>(
 {
     match index(tokens) {
         Some(after) => {
-            let (value, rest) = expression(alloc, Mark::CloseBracket, text, after)?;
+            let (value, rest) = expression(alloc, names, Mark::CloseBracket, text, after)?;
             Ok((element(alloc, name, value)?, rest))
         }
         None => Ok((Expr::Named(name), tokens)),

@@ -16,7 +16,7 @@ use cell_lexer::{one_outcome, read_back};
 /// the same but for its lines. The words are spelt as the pieces of the canonical text.
 pub fn printed_is_in_the_grammar()
     ensures spelt { (s : Source) → map told_piece (told s) ≡ canonical_pieces s }
-    ensures reads { (s : Source) → s.buffer ≡ 0 → (ts : List Lexeme) → Covers (spoken s) ts []
+    ensures reads { (s : Source) (ts : List Lexeme) → Covers (spoken s) ts []
         → (t : Source) × Reads ts t × (unlined t ≡ unlined s) }
 {}
 

@@ -9,6 +9,7 @@ mod fault;
 mod laws;
 mod laws_printed;
 mod limits;
+mod names;
 mod operator;
 mod parsing;
 mod parts;

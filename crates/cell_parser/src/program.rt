@@ -1,13 +1,14 @@
-ghost use Rattle.std.specs.Prelude.{◌≡◌, Ok, IfOk, IfErr};
+ghost use Rattle.std.specs.Prelude.{◌≡◌, ℕ, List, Ok, IfOk, IfErr};
 ghost use Rattle.cell_tree.specs.declared.source.Source.{Source};
 ghost use Rattle.cell_parser.specs.Inner.Declaring.{Comes, Halts, with_links, with_messages, with_cells};
 ghost use Rattle.cell_parser.specs.Lexeme.{lexemes};
-ghost use Rattle.cell_parser.specs.Inner.Machine.{Links, Messages, Cells, run, start};
+ghost use Rattle.cell_parser.specs.Inner.Machine.{Buffer, Links, Messages, Cells, run, start};
 ghost use Rattle.cell_parser.specs.Inner.Reading.{AreTokens};
 
 use crate::cursor::{after_key, expect_x, keyword, number, unexpected};
 use crate::declaration::{cell, link, message};
 use crate::fault::Fault;
+use crate::names::Names;
 use crate::parts::setting;
 use cell_lexer::{Key, Token};
 use cell_tree::{CellDecl, LinkDecl, MessageDecl, Source};
@@ -26,21 +27,38 @@ pub(crate) fn program(alloc: Global, text: &[u8], tokens: &[Token]) -> Result<So
     let (cols, rest) = setting(rest)?;
     let (queues_line, rest) = keyword(Key::Queues, rest)?;
     let (queues, rest) = setting(rest)?;
+    let (buffer, buffer_line, rest) = buffer(rest)?;
     let (links, rest) = links(alloc, text, rest)?;
-    let (messages, rest) = messages(alloc, text, rest)?;
-    let cells = cells(alloc, text, rest)?;
+    let mut names = Names::new(alloc);
+    let (messages, rest) = messages(alloc, &mut names, text, rest)?;
+    let cells = cells(alloc, &mut names, text, rest)?;
     Ok(Source {
         rows,
         cols,
         array_line,
         queues,
         queues_line,
-        buffer: 0,
-        buffer_line: 0,
+        buffer,
+        buffer_line,
         links,
         messages,
         cells,
     })
+}
+
+/// The number and the line of the `buffer` line that comes first, or 0 and 0 where none does, and the tokens after
+/// it.
+fn buffer(tokens: &[Token]) -> Result<(u64, u32, &[Token]), Fault>
+    ensures read { IfOk result (λ r. (text : List ℕ) (f : ℕ → ℕ → Source)
+        → Comes text (Buffer f) tokens.now (Links (f r.0 r.1)) r.2.now) }
+    ensures wrong { IfErr result (λ e. (text : List ℕ) (f : ℕ → ℕ → Source) → Halts text (Buffer f) tokens.now e) }
+    ensures kept { IfOk result (λ r. (text : List ℕ) → AreTokens text tokens.now → AreTokens text r.2.now) }
+{
+    if let Some((line, rest)) = after_key(Key::Buffer, tokens) {
+        let (buffer, rest) = setting(rest)?;
+        return Ok((buffer, line, rest));
+    }
+    Ok((0, 0, tokens))
 }
 
 /// The `link` lines that come first, and the tokens after them.
@@ -66,9 +84,10 @@ fn links<'a>(
 }
 
 /// The `message` lines that come first, and the tokens after them.
-fn messages<'a>(
+fn messages<'t, 'a>(
     alloc: Global,
-    text: &[u8],
+    names: &mut Names<'t>,
+    text: &'t [u8],
     tokens: &'a [Token],
 ) -> Result<(Items<MessageDecl>, &'a [Token]), Fault>
     requires { AreTokens text.now tokens.now }
@@ -80,7 +99,7 @@ fn messages<'a>(
     let mut messages = Items::new(alloc);
     let mut rest = tokens;
     'each: while let Some((line, after)) = after_key(Key::Message, rest) {
-        let (message, next) = message(alloc, text, after, line)?;
+        let (message, next) = message(alloc, names, text, after, line)?;
         messages.push(message)?;
         rest = next;
     }
@@ -88,7 +107,12 @@ fn messages<'a>(
 }
 
 /// The cells, after which no token may stand.
-fn cells(alloc: Global, text: &[u8], tokens: &[Token]) -> Result<Items<CellDecl>, Fault>
+fn cells<'t>(
+    alloc: Global,
+    names: &mut Names<'t>,
+    text: &'t [u8],
+    tokens: &[Token],
+) -> Result<Items<CellDecl>, Fault>
     requires { AreTokens text.now tokens.now }
     ensures read { IfOk result
         (λ cells. (s : Source) → run (Cells s) (lexemes text.now tokens.now) ≡ Ok (with_cells s cells)) }
@@ -97,7 +121,7 @@ fn cells(alloc: Global, text: &[u8], tokens: &[Token]) -> Result<Items<CellDecl>
     let mut cells = Items::new(alloc);
     let mut rest = tokens;
     'each: while let Some((line, after)) = after_key(Key::Cell, rest) {
-        let (cell, next) = cell(alloc, text, after, line)?;
+        let (cell, next) = cell(alloc, names, text, after, line)?;
         cells.push(cell)?;
         rest = next;
     }

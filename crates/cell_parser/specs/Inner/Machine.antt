@@ -114,6 +114,8 @@ mutual
     Label : (Option ℕ → State) → State
     -- a length or none, and a semicolon
     Length : (Option ℕ → State) → State
+    -- a `buffer` line or none, and then the lists, after this part of a source with the buffer and its line
+    Buffer : (ℕ → ℕ → Source) → State
     -- a `link`, `message` or `cell` line, after this part of a source
     Links : Source → State
     -- a `message` or `cell` line
@@ -134,6 +136,10 @@ mark m state = Expect (Marked m) state
 -- a keyword is wanted
 abbrev pub key : Key → State → State
 key k state = Expect (Keyword k) state
+
+-- a number and a semicolon are wanted
+abbrev pub setting : (ℕ → State) → State
+setting f = ExpectNumber (λ n. mark M.Semicolon (f n))
 
 -- a place is wanted
 abbrev pub place : (Place → State) → State
@@ -352,6 +358,11 @@ abbrev pub at_links : Word → ℕ → Source → Option State
 at_links (Keyword K.Link) l s = Some (link l s)
 at_links w l s = at_messages w l s
 
+-- what follows a word where a `buffer` line may stand
+abbrev pub at_buffer : Word → ℕ → (ℕ → ℕ → Source) → Option State
+at_buffer (Keyword K.Buffer) l f = Some (setting (λ n. Links (f n l)))
+at_buffer w l f = at_links w l (f 0 0)
+
 -- what follows a word where a `var` line may stand
 abbrev pub at_vars : Word → ℕ → Source → CellDecl → Option State
 at_vars (Keyword K.Var) l s c = Some (variable l s c)
@@ -374,6 +385,7 @@ at (Route f) l w = at_route w f
 at (Dirs ds f) l w = at_dirs w ds f
 at (Label f) l w = at_label w f
 at (Length f) l w = at_length w f
+at (Buffer f) l w = at_buffer w l f
 at (Links s) l w = at_links w l s
 at (Messages s) l w = at_messages w l s
 at (Cells s) l w = at_cells w l s
@@ -385,6 +397,7 @@ step state (At l w) = at state l w
 
 -- the source that has been read where the words end in a state, or that none has
 abbrev pub finish : State → Result Source ℕ
+finish (Buffer f) = Ok (f 0 0)
 finish (Links s) = Ok s
 finish (Messages s) = Ok s
 finish (Cells s) = Ok s
@@ -401,21 +414,17 @@ abbrev pub run : State → List Lexeme → Result Source ℕ
 run state [] = finish state
 run state (t ∷ ts) = going (step state t) (λ next. run next ts) (suc (length ts))
 
--- a number and a semicolon are wanted
-abbrev pub setting : (ℕ → State) → State
-setting f = ExpectNumber (λ n. mark M.Semicolon (f n))
-
 -- a whole source is wanted
 abbrev pub start : State
 start =
-    ExpectKey K.Array (λ l. ExpectNumber (λ r. Expect (Named (codes "x")) (setting (λ c. ExpectKey K.Queues (λ k. setting (λ q. Links (record {
+    ExpectKey K.Array (λ l. ExpectNumber (λ r. Expect (Named (codes "x")) (setting (λ c. ExpectKey K.Queues (λ k. setting (λ q. Buffer (λ n m. record {
       rows = r;
       cols = c;
       array_line = l;
       queues = q;
       queues_line = k;
-      buffer = 0;
-      buffer_line = 0;
+      buffer = n;
+      buffer_line = m;
       links = [];
       messages = [];
       cells = [];
