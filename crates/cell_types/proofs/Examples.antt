@@ -240,15 +240,15 @@ not_alike alike = cc alike.0.0
 never_run : AlikeBlock (body_at (source 1 1 1 [] (cell 0 0 [] (loop named_i 0 (one_armed ∷ []) ∷ []) ∷ [])) 0)
 never_run = (tt, tt)
 
--- `x = 0;` thirty times and `x = -x;` once
+-- `x = 0;` 126 times and `x = -x;` once
 abbrev long_body : List WrittenStatement
 long_body =
-    replicate 30 (stmt (T.Set named_x (T.Number 0))) ++ stmt (T.Set named_x (T.Negated (T.Named named_x))) ∷ []
+    replicate 126 (stmt (T.Set named_x (T.Number 0))) ++ stmt (T.Set named_x (T.Negated (T.Named named_x))) ∷ []
 
 -- `for i 65535 { .. }` and the same statements behind it take just as many steps as cells may.
 most_steps : cells_cost
     (resolved_program (source 1 1 1 [] (cell 0 0 (variable named_x ∷ []) (loop named_i 65535 long_body ∷ long_body) ∷ [])))
-    ≡ 4194304
+    ≡ 16777216
 most_steps = refl
 
 -- `1 + (2 + 3)` needs a stack of three words, and `1 + 2 + 3` one of two.

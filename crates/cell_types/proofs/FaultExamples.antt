@@ -41,6 +41,9 @@ largest = refl
 many_queues : source_faults (source 1 1 33 [] []) ≡ E.Limit L.Queues 1 ∷ []
 many_queues = refl
 
+largest_buffer : source_faults (record (source 1 1 1 [] []) { buffer = 64; buffer_line = 2 }) ≡ []
+largest_buffer = refl
+
 large_buffer : source_faults (record (source 1 1 1 [] []) { buffer = 65; buffer_line = 2 }) ≡ E.Limit L.Buffer 2 ∷ []
 large_buffer = refl
 

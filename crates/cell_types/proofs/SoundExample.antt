@@ -76,5 +76,5 @@ one_word_sound = record {
   messages = sound;
   all = refl;
   cells = cells;
-  buffer = refl;
+  buffer = omega arith;
 }

@@ -1,6 +1,7 @@
 -- The grid and the queues of a source without faults.
 use Rattle.std.proofs.Common.{◌≡◌, ℕ, zero, suc, ◌+◌, ◌*◌, ◌<◌, ◌≤◌, Option, Some, None, List, [], ◌++◌, length, get_or, flat_map, find, refl, sym, ap, ◌∙◌, subst, arith, zero-add, is_some, MatchOption}
 use Rattle.std.proofs.lemmas.List.{get_or_append_left}
+use Rattle.std.proofs.lemmas.Bool.{ltb-false}
 use Rattle.std.proofs.Common.{get_or-append-add}
 use Rattle.std.specs.List.{range_with_len}
 use Rattle.std.specs.Prelude.{if◌then◌else◌, nat_eq}
@@ -32,6 +33,10 @@ IsQueues n = (1 ≤ n) × (n ≤ 32)
 -- the `queues` line gives as many as a link may have
 default_kept : (s : WrittenSource) → queues_faults s ≡ [] → IsQueues s.queues
 default_kept s h = within 1 32 s.queues (when_none _ _ (none_front (when (is_outside 1 32 s.queues) (E.Limit L.Queues s.queues_line)) _ h))
+
+-- the buffer is 64 at most
+pub buffer_kept : (s : WrittenSource) → queues_faults s ≡ [] → s.buffer ≤ 64
+buffer_kept s h = ltb-false 64 s.buffer (when_none _ _ (none_back (when (is_outside 1 32 s.queues) (E.Limit L.Queues s.queues_line)) _ h))
 
 -- so does a `link` line
 link_kept : (g : Extent) (earlier : List LinkDecl) (l : LinkDecl) → link_faults g earlier l ≡ [] → IsQueues l.queues

@@ -17,7 +17,7 @@ use Rattle.cell_types.specs.declared.error.StaticError.{StaticError}
 use Rattle.cell_types.proofs.NoFaults.{none_front, none_back}
 use Rattle.cell_types.proofs.SoundCells.{IsShallow, cells_kept, cells_length}
 use Rattle.cell_types.proofs.Paths.{PathLaws}
-use Rattle.cell_types.proofs.SoundGrid.{grid_kept, queues_kept, queues_length}
+use Rattle.cell_types.proofs.SoundGrid.{grid_kept, buffer_kept, queues_kept, queues_length}
 use Rattle.cell_types.proofs.SoundMessages.{messages_kept, messages_few, names_differ}
 use Rattle.cell_types.proofs.WrittenNumbers.{Small, small_front, small_back}
 use Rattle.cell_types.proofs.WrittenTrees.{block_keeps}
@@ -77,5 +77,5 @@ sound laws source printable h stack loops short =
       cells = cells_kept s (none_back (array_faults s ++ queues_faults s ++ links ++ messages) cells h)
           (all_shallow source.cells (recursion_from_All (λ c. cell_stack c ≤ 256) source.cells stack)
           (recursion_from_All (λ c. cell_loops c ≤ 16) source.cells loops) (cells_small source printable));
-      buffer = printable.buffer;
+      buffer = buffer_kept s (none_back (array_faults s) (queues_faults s) before_links);
     }

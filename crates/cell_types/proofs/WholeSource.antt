@@ -1,26 +1,21 @@
 -- What the parts of a source come to.
-use Rattle.std.proofs.Common.{ℕ, ◌≡◌, List, [], ◌++◌, map, nat_lt, sym, ap, ◌∙◌, arith}
-use Rattle.std.proofs.lemmas.Bool.{le-ltb}
+use Rattle.std.proofs.Common.{ℕ, ◌≡◌, List, [], ◌++◌, map, sym, ap, ◌∙◌}
 use Rattle.sys_base.specs.Grid.{Extent}
-use Rattle.sys_base.specs.declared.kinds.Limit.TheVariants as L
-use Rattle.cell_tree.specs.Printable.{IsPrintable}
 use Rattle.cell_tree.specs.declared.source.LinkDecl.{LinkDecl}
 use Rattle.cell_tree.specs.declared.source.MessageDecl.{MessageDecl}
 use Rattle.cell_tree.specs.declared.source.Source.{Source}
-use Rattle.cell_types.specs.bodies.Declarations.{count_faults}
+use Rattle.cell_types.specs.bodies.Declarations.{count_faults, buffer_faults}
 use Rattle.cell_types.specs.Faults.{array_faults, queues_faults, faults_behind, link_faults, message_faults, cell_faults, faults}
 use Rattle.cell_types.specs.Names.{extent_of}
 use Rattle.cell_types.specs.Resolved.{program_of, resolved_message}
-use Rattle.cell_types.specs.Statics.{when}
 use Rattle.cell_types.specs.Typed.{plain, plain_cell}
 use Rattle.cell_types.specs.Written.{WrittenSource, written}
 use Rattle.cell_types.specs.declared.error.StaticError.{StaticError}
-use Rattle.cell_types.specs.declared.error.StaticError.TheVariants as E
 use Rattle.cell_types.specs.declared.program.Message.{Message}
 use Rattle.cell_types.specs.declared.cell.Cell.{Cell}
-use Rattle.cell_types.proofs.FirstFaults.{none_joined, when_passes}
+use Rattle.cell_types.proofs.FirstFaults.{none_joined}
 
-module _ (source : Source) (printable : IsPrintable source) where
+module _ (source : Source) where
   abbrev s : WrittenSource
   s = written source
 
@@ -39,14 +34,12 @@ module _ (source : Source) (printable : IsPrintable source) where
   abbrev counted : List StaticError
   counted = count_faults source.queues source.queues_line
 
-  -- a printable source has no buffer
-  no_buffer : when (nat_lt 64 source.buffer) (E.Limit L.Buffer source.buffer_line) ≡ []
-  no_buffer =
-      when_passes (nat_lt 64 source.buffer) (E.Limit L.Buffer source.buffer_line)
-      (le-ltb 64 source.buffer (omega (arith, printable.buffer)))
+  abbrev buffered : List StaticError
+  buffered = buffer_faults source.buffer source.buffer_line
 
-  module _ (grid : Extent) (usual : ℕ) (lines : List LinkDecl) (declared : List MessageDecl) (queues : List ℕ) (list : List Message) (made : List Cell)
+  module _ (grid : Extent) (usual buffer : ℕ) (lines : List LinkDecl) (declared : List MessageDecl) (queues : List ℕ) (list : List Message) (made : List Cell)
       (extent : (array_faults s ≡ []) × (grid ≡ g)) (count : (counted ≡ []) × (usual ≡ source.queues))
+      (kept : (buffered ≡ []) × (buffer ≡ source.buffer))
       (same_lines : lines ≡ source.links) (same_messages : declared ≡ source.messages)
       (linked : faults_behind (link_faults grid) [] lines ≡ [])
       (named : (faults_behind (message_faults grid) [] declared ≡ []) × (list ≡ map (resolved_message grid) declared))
@@ -54,7 +47,7 @@ module _ (source : Source) (printable : IsPrintable source) where
     -- no part of the source has a fault
     no_faults : faults source ≡ []
     no_faults =
-        let queued = none_joined counted (when (nat_lt 64 source.buffer) (E.Limit L.Buffer source.buffer_line)) count.0 no_buffer in
+        let queued = none_joined counted buffered count.0 kept.0 in
         let no_links : links ≡ [] =
         ap (λ h. faults_behind (link_faults h) [] source.links) (sym extent.1)
         ∙ ap (λ ls. faults_behind (link_faults grid) [] ls) (sym same_lines) ∙ linked in
@@ -68,14 +61,13 @@ module _ (source : Source) (printable : IsPrintable source) where
 
     -- its parts make the program
     program_made : queues ≡ (program_of source).queues
-        → plain (record { grid = grid; queues = queues; messages = list; cells = made; buffer = 0 }) ≡ program_of source
+        → plain (record { grid = grid; queues = queues; messages = list; cells = made; buffer = buffer }) ≡ program_of source
     program_made filled =
         let all : list ≡ (program_of source).messages =
         named.1 ∙ ap (map (resolved_message grid)) same_messages ∙ ap (λ h. map (resolved_message h) source.messages) extent.1 in
-        let none : 0 ≡ source.buffer = sym printable.buffer in
-        λ i. record { grid = extent.1 i; queues = filled i; messages = all i; cells = programmed.1 i; buffer = none i }
+        λ i. record { grid = extent.1 i; queues = filled i; messages = all i; cells = programmed.1 i; buffer = kept.1 i }
 
     -- the source has no fault, and this is its program
     pub whole : queues ≡ (program_of source).queues → (faults source ≡ [])
-        × (plain (record { grid = grid; queues = queues; messages = list; cells = made; buffer = 0 }) ≡ program_of source)
+        × (plain (record { grid = grid; queues = queues; messages = list; cells = made; buffer = buffer }) ≡ program_of source)
     whole filled = (no_faults, program_made filled)

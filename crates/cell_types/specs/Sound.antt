@@ -2,7 +2,7 @@
 use Rattle.std.specs.Prelude.{◌-◌, ℕ, ◌≡◌, ◌≢◌, ◌+◌, ◌*◌, ◌<◌, ◌≤◌, ⊤, List, length, All, AllPairs, slice_get, slice_index, Some, IsSomeAnd, IfSome, MatchOption}
 use Rattle.sys_base.specs.Grid.{Extent, IsExtent, cell_count, neighbour_of, link_id}
 use Rattle.sys_base.specs.declared.kinds.Dir.{Dir}
-use Rattle.sys_base.specs.declared.limits.TheConstants.{LABEL, MESSAGES, QUEUES, TURNS, WORDS}
+use Rattle.sys_base.specs.declared.limits.TheConstants.{BUFFER, LABEL, MESSAGES, QUEUES, TURNS, WORDS}
 use Rattle.cell_lexer.specs.declared.limits.TheConstants.{GREATEST_NUMBER, PIECE_TOKENS, OPEN_BRACES}
 use Rattle.routes.specs.Walks.{IsPath}
 use Rattle.cell_types.specs.Code.{Expression, Number, Variable, Counter, Element, Negated, Applied, Action, Set, SetAt, Write, Read, Take, Emit, For, If, Block, End, Then, CellCode, ProgramCode}
@@ -103,4 +103,4 @@ pub record IsSound (program : ProgramCode) : Type 0 where
   pub all : length program.cells ≡ cell_count program.grid
   pub cells : (index : ℕ) (cell : CellCode)
       → slice_get program.cells index ≡ Some cell → IsSoundCell program.messages index cell
-  pub buffer : program.buffer ≡ 0
+  pub buffer : program.buffer ≤ BUFFER

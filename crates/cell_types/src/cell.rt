@@ -23,7 +23,7 @@ pub struct Cell {
 }
 
 impl Cell {
-    /// The cost of its statements, in steps, 0 to 4,194,304 (`docs/model.md`, "Cost"); `None` exactly where it is
+    /// The cost of its statements, in steps, 0 to 16,777,216 (`docs/model.md`, "Cost"); `None` exactly where it is
     /// more.
     pub fn cost(&self) -> Option<u32>
         ensures { IsLimited (block_cost (block_of self.now.body.items)) result }

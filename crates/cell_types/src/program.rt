@@ -55,23 +55,25 @@ impl Model for Program {
 }
 
 impl Program {
-    /// The program with these parts, and without a buffer.
+    /// The program with these parts.
     pub(crate) fn new(
         grid: Grid,
         queues: Items<u8>,
         messages: Items<Message>,
         cells: Items<Cell>,
+        buffer: u8,
     ) -> Program
         requires sound { IsSound (plain
-            (record { grid = grid; queues = queues; messages = messages; cells = cells; buffer = 0 })) }
-        ensures { result ≡ record { grid = grid; queues = queues; messages = messages; cells = cells; buffer = 0 } }
+            (record { grid = grid; queues = queues; messages = messages; cells = cells; buffer = buffer })) }
+        ensures { result
+            ≡ record { grid = grid; queues = queues; messages = messages; cells = cells; buffer = buffer } }
     {
         Program {
             grid,
             queues,
             messages,
             cells,
-            buffer: 0,
+            buffer,
         }
     }
 
@@ -108,7 +110,7 @@ impl Program {
         self.cells.as_slice()
     }
 
-    /// The buffer, which is always 0.
+    /// The buffer, 0 to 64; 0 where the source gives none.
     pub fn buffer(&self) -> u8
         ensures buffer { result ≡ self.now.buffer }
         ensures sound { IsSound (plain self.now) }
@@ -116,7 +118,7 @@ impl Program {
         self.buffer
     }
 
-    /// The cost of all cells together, in steps, 0 to 4,194,304 (`docs/model.md`, "Cost"); `None` exactly where it is
+    /// The cost of all cells together, in steps, 0 to 16,777,216 (`docs/model.md`, "Cost"); `None` exactly where it is
     /// more.
     pub fn cost(&self) -> Option<u32>
         ensures { IsLimited (cells_cost (plain self.now)) result }

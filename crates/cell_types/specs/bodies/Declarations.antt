@@ -4,7 +4,7 @@ use Rattle.std.specs.List.{list_any}
 use Rattle.std.specs.Option.{option_map_or}
 use Rattle.sys_base.specs.Grid.{Extent, cell_count}
 use Rattle.sys_base.specs.declared.kinds.Limit.TheVariants as L
-use Rattle.sys_base.specs.declared.limits.TheConstants.{QUEUES, MESSAGES, LABEL}
+use Rattle.sys_base.specs.declared.limits.TheConstants.{BUFFER, QUEUES, MESSAGES, LABEL}
 use Rattle.cell_tree.specs.declared.source.LinkDecl.{LinkDecl}
 use Rattle.cell_tree.specs.declared.source.MessageDecl.{MessageDecl}
 use Rattle.cell_tree.specs.declared.source.Place.{Place}
@@ -23,6 +23,10 @@ use Rattle.cell_types.specs.declared.table.Ends.{Ends}
 -- what is wrong with a number of queues on a line
 abbrev pub count_faults : ℕ → ℕ → List StaticError
 count_faults queues line = when (is_outside 1 QUEUES queues) (E.Limit L.Queues line)
+
+-- what is wrong with the number of a `buffer` line
+abbrev pub buffer_faults : ℕ → ℕ → List StaticError
+buffer_faults buffer line = when (nat_lt BUFFER buffer) (E.Limit L.Buffer line)
 
 -- the queues that the line of a link gives, by its id; 0 where it has no line
 abbrev pub own_queues : Extent → List LinkDecl → ℕ → ℕ

@@ -5,4 +5,4 @@ use Rattle.cell_types.proofs.costs.+cost.Given as goal
 
 abbrev pub invariant-statements_cost-loop-statement : goal.invariant-statements_cost-loop-statement
 invariant-statements_cost-loop-statement l =
-    (l.cost + block_cost (block_of (drop l.statement-index l.body)) ≡ block_cost (block_of l.body)) × (l.cost ≤ 4194304)
+    (l.cost + block_cost (block_of (drop l.statement-index l.body)) ≡ block_cost (block_of l.body)) × (l.cost ≤ 16777216)

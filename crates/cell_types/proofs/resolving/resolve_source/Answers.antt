@@ -19,8 +19,9 @@ new-requires c =
       default = c.route_lengths.ensures.default;
     } in
     let source = c.args.source in
-    let all = whole source c.requires c.in_ok-grid.grid c.in_ok-usual.usual c.as_slice.result.now c.as_slice-2.result.now
-    c.in_ok-queues.queues c.in_ok-list.field-0.list c.in_ok-cells.cells c.in_ok-grid.ensures c.in_ok-usual.ensures.count c.as_slice.ensures
+    let all = whole source c.in_ok-grid.grid c.in_ok-usual.usual c.in_ok-buffer.buffer c.as_slice.result.now c.as_slice-2.result.now
+    c.in_ok-queues.queues c.in_ok-list.field-0.list c.in_ok-cells.cells c.in_ok-grid.ensures c.in_ok-usual.ensures.count c.in_ok-buffer.ensures
+    c.as_slice.ensures
     c.as_slice-2.ensures c.in_ok-queues.ensures.faults c.in_ok-list.ensures.list
     (c.in_ok-cells.ensures source c.in_ok-grid.ensures.1 refl
     (c.in_ok-list.ensures.table ∙ ap (map (named_message c.in_ok-grid.grid)) c.as_slice-2.ensures))
@@ -34,8 +35,9 @@ new-requires c =
 pub returns-clause-program : goal.returns-clause-program
 returns-clause-program c =
     let source = c.args.source in
-    let all = whole source c.requires c.in_ok-grid.grid c.in_ok-usual.usual c.as_slice.result.now c.as_slice-2.result.now
-    c.in_ok-queues.queues c.in_ok-list.field-0.list c.in_ok-cells.cells c.in_ok-grid.ensures c.in_ok-usual.ensures.count c.as_slice.ensures
+    let all = whole source c.in_ok-grid.grid c.in_ok-usual.usual c.in_ok-buffer.buffer c.as_slice.result.now c.as_slice-2.result.now
+    c.in_ok-queues.queues c.in_ok-list.field-0.list c.in_ok-cells.cells c.in_ok-grid.ensures c.in_ok-usual.ensures.count c.in_ok-buffer.ensures
+    c.as_slice.ensures
     c.as_slice-2.ensures c.in_ok-queues.ensures.faults c.in_ok-list.ensures.list
     (c.in_ok-cells.ensures source c.in_ok-grid.ensures.1 refl
     (c.in_ok-list.ensures.table ∙ ap (map (named_message c.in_ok-grid.grid)) c.as_slice-2.ensures))
