@@ -1,11 +1,12 @@
 -- The line of each refusal.
-use Rattle.std.specs.Prelude.{ℕ, ◌^◌, ◌-◌, Bool, true, false, ◌==◌, List, ◌++◌, codes, if◌then◌else◌}
+use Rattle.std.specs.Prelude.{ℕ, Bool, true, false, ◌==◌, List, ◌++◌, codes, if◌then◌else◌}
 use Rattle.std.specs.Fmt.{decimal}
 use Rattle.sys_base.specs.Names.{cell_text, link_text}
 use Rattle.sys_base.specs.declared.kinds.Limit.{Limit}
 use Rattle.sys_base.specs.declared.kinds.Limit.TheVariants as L
-use Rattle.sys_base.specs.declared.limits.TheConstants.{LABEL, MESSAGES, NAME_BYTES, QUEUES, SIDE}
+use Rattle.sys_base.specs.declared.limits.TheConstants.{BUFFER, LABEL, MESSAGES, NAME_BYTES, QUEUES, SIDE}
 use Rattle.sys_base.specs.declared.limits.TheConstants.{SOURCE_BYTES, STEPS, TURNS, VARIABLES, WORDS}
+use Rattle.cell_lexer.specs.declared.limits.TheConstants.{GREATEST_NUMBER, OPEN_BRACES, PIECE_TOKENS}
 use Rattle.refusals.specs.declared.refusal.Refusal.{Refusal}
 use Rattle.refusals.specs.declared.refusal.Refusal.TheVariants as R
 use Rattle.refusals.specs.declared.refusal.Twice.{Twice}
@@ -21,7 +22,7 @@ allowed L.Label = codes "labels are 0 to " ++ decimal LABEL
 allowed L.Names = codes "variables are at most " ++ decimal VARIABLES ++ codes " in a cell"
 allowed L.Words = codes "words are 1 to " ++ decimal WORDS ++ codes " in a cell"
 allowed L.Turns = codes "loop counts are 0 to " ++ decimal TURNS
-allowed L.Buffer = codes "the buffer is 0 to 64"
+allowed L.Buffer = codes "the buffer is 0 to " ++ decimal BUFFER
 
 -- what stands twice
 abbrev pub twice_text : Twice → List ℕ
@@ -51,12 +52,15 @@ text_of (R.BadByte at) = codes "E01 byte at " ++ decimal at ++ codes " is not pa
 text_of (R.Unexpected line column) =
     codes "E02 line " ++ decimal line ++ codes " column " ++ decimal column ++ codes ": not expected here"
 text_of (R.BigNumber line) =
-    codes "E03 line " ++ decimal line ++ codes ": the number is more than " ++ decimal (2 ^ 63 - 1)
+    codes "E03 line " ++ decimal line ++ codes ": the number is more than " ++ decimal GREATEST_NUMBER
 text_of (R.LongName line) =
     codes "E04 line " ++ decimal line ++ codes ": the name has more than " ++ decimal NAME_BYTES ++ codes " bytes"
 text_of R.LongSource = codes "E05 the source has more than " ++ decimal SOURCE_BYTES ++ codes " bytes"
-text_of (R.LongPiece line) = codes "E06 line " ++ decimal line ++ codes ": more than 256 tokens without ; { or }"
-text_of (R.Braces line) = codes "E07 line " ++ decimal line ++ codes ": more than 17 braces are open"
+text_of (R.LongPiece line) =
+    codes "E06 line " ++ decimal line ++ codes ": more than " ++ decimal PIECE_TOKENS
+    ++ codes " tokens without ; { or }"
+text_of (R.Braces line) =
+    codes "E07 line " ++ decimal line ++ codes ": more than " ++ decimal OPEN_BRACES ++ codes " braces are open"
 text_of (R.Limit limit line) = codes "E10 line " ++ decimal line ++ codes ": " ++ allowed limit
 text_of (R.Twice what line) =
     codes "E11 line " ++ decimal line ++ codes ": " ++ twice_text what ++ codes " stands twice"

@@ -3,10 +3,11 @@ ghost use Rattle.std.specs.Prelude.{◌≡◌, Some};
 ghost use Rattle.refusals.specs.Texts.{allowed, end_words, kind_words, labelled, text_of, twice_text};
 
 use crate::refusal::{Refusal, Twice};
+use cell_lexer::{GREATEST_NUMBER, OPEN_BRACES, PIECE_TOKENS};
 use std::fmt;
 use sys_base::{
-    CellName, LABEL, Limit, MESSAGES, NAME_BYTES, Name, QUEUES, SIDE, SOURCE_BYTES, STEPS, TURNS,
-    VARIABLES, WORDS,
+    BUFFER, CellName, LABEL, Limit, MESSAGES, NAME_BYTES, Name, QUEUES, SIDE, SOURCE_BYTES, STEPS,
+    TURNS, VARIABLES, WORDS,
 };
 
 impl fmt::Display for Refusal {
@@ -22,8 +23,7 @@ impl fmt::Display for Refusal {
             ),
             Refusal::BigNumber { line } => write!(
                 f,
-                "E03 line {line}: the number is more than {}",
-                i64::MAX
+                "E03 line {line}: the number is more than {GREATEST_NUMBER}"
             ),
             Refusal::LongName { line } => write!(
                 f,
@@ -32,9 +32,12 @@ impl fmt::Display for Refusal {
             Refusal::LongSource => write!(f, "E05 the source has more than {SOURCE_BYTES} bytes"),
             Refusal::LongPiece { line } => write!(
                 f,
-                "E06 line {line}: more than 256 tokens without ; {{ or }}"
+                "E06 line {line}: more than {PIECE_TOKENS} tokens without ; {{ or }}"
             ),
-            Refusal::Braces { line } => write!(f, "E07 line {line}: more than 17 braces are open"),
+            Refusal::Braces { line } => write!(
+                f,
+                "E07 line {line}: more than {OPEN_BRACES} braces are open"
+            ),
             Refusal::Limit { limit, line } => write!(f, "E10 line {line}: {}", Allowed(*limit)),
             Refusal::Twice { what, line } => write!(f, "E11 line {line}: {what} stands twice"),
             Refusal::OutsideGrid { line } => write!(f, "E12 line {line}: outside the grid"),
@@ -161,7 +164,7 @@ impl fmt::Display for Allowed {
             Limit::Names => write!(f, "variables are at most {VARIABLES} in a cell"),
             Limit::Words => write!(f, "words are 1 to {WORDS} in a cell"),
             Limit::Turns => write!(f, "loop counts are 0 to {TURNS}"),
-            Limit::Buffer => write!(f, "the buffer is 0 to 64"),
+            Limit::Buffer => write!(f, "the buffer is 0 to {BUFFER}"),
         }
     }
 }

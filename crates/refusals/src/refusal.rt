@@ -99,7 +99,7 @@ pub enum Refusal {
         link: LinkName,
         line: u32,
     },
-    /// E30: there is no crossing order. This number of operations is left, and the walk shows why.
+    /// E30: there is no order for the program's buffer. This number of operations is left, and the walk shows why.
     Crossing {
         left: u32,
         walk: Items<WalkLine>,
@@ -127,9 +127,9 @@ pub enum Refusal {
         has: u8,
         group: Items<Name>,
     },
-    /// E60: the cells take more than 4194304 steps.
+    /// E60: the cells take more than 16777216 steps.
     CellSteps,
-    /// E61: the bound on the steps is above 4194304.
+    /// E61: the bound on the steps is above 16777216.
     Bound {
         bound: u32,
     },

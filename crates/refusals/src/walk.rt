@@ -4,7 +4,7 @@ ghost use Rattle.refusals.specs.Explanations.{walk_text};
 use std::fmt;
 use sys_base::{CellName, Name};
 
-/// A line of the walk from cell to cell that shows why there is no crossing order.
+/// A line of the walk from cell to cell that shows why there is no order for a program's buffer.
 #[derive(Debug, Drop)]
 pub enum WalkLine {
     /// The cell waits to write the message to its receiver.
