@@ -1,15 +1,17 @@
 -- The steps over the cells of a program.
 use Rattle.std.proofs.Common.{◌≡◌, ℕ, ◌+◌, ◌<◌, List, [], ◌∷◌, ◌++◌, length, get_or, take, drop, map, ap, sym, subst, ◌∙◌}
 use Rattle.std.proofs.lemmas.List.{at_drop_more, take_more, map-append}
+use Rattle.std.specs.Global.{Vec}
 use Rattle.cell_types.specs.Code.{CellCode}
 use Rattle.cell_types.specs.Communications.{Communication, block_communications}
 use Rattle.cell_types.specs.Typed.{block_of, plain_cell}
 use Rattle.cell_types.specs.declared.cell.Cell.{Cell}
 use Rattle.comm_sequence.specs.Differing.{differing, differing_from, IsFirst}
-use Rattle.comm_sequence.specs.bodies.Unrolling.{all_of}
-use Rattle.comm_sequence.specs.declared.entry.Entry.{Entry}
+use Rattle.comm_sequence.specs.Gathered.{all_unrolled}
+use Rattle.comm_sequence.specs.Parts.{unrolled}
 use Rattle.comm_sequence.specs.declared.error.CommError.{CommError}
 use Rattle.comm_sequence.specs.declared.error.CommError.TheVariants.{ArmsDiffer, Memory}
+use Rattle.comm_sequence.specs.declared.part.Part.{Part}
 
 -- an error in the first of two parts
 pub front_first : (xs ys : List (ℕ × ℕ)) (e : CommError) → IsFirst xs e → IsFirst (xs ++ ys) e
@@ -47,12 +49,12 @@ abbrev pub of_code : CellCode → List Communication
 of_code c = block_communications c.body
 
 -- the communications of the cells so far and of the next one
-pub list_more : (cells : List Cell) (i : ℕ) (d : Cell) (done : List (List Entry)) (entries : List Entry) → i < length cells
-    → map all_of done ≡ map of_code (map plain_cell (take i cells))
-    → all_of entries ≡ block_communications (block_of (get_or cells i d).body.items)
-    → map all_of (done ++ entries ∷ []) ≡ map of_code (map plain_cell (take (i + 1) cells))
-list_more cells i d done entries within so_far more =
-    map-append all_of done (entries ∷ []) ∙ ap (λ xs. xs ++ all_of entries ∷ []) so_far
+pub list_more : (cells : List Cell) (i : ℕ) (d : Cell) (done : List (Vec Part)) (parts : Vec Part) → i < length cells
+    → all_unrolled done ≡ map of_code (map plain_cell (take i cells))
+    → unrolled parts.items ≡ block_communications (block_of (get_or cells i d).body.items)
+    → all_unrolled (done ++ parts ∷ []) ≡ map of_code (map plain_cell (take (i + 1) cells))
+list_more cells i d done parts within so_far more =
+    map-append (λ (p : Vec Part). unrolled p.items) done (parts ∷ []) ∙ ap (λ xs. xs ++ unrolled parts.items ∷ []) so_far
     ∙ ap (λ x. map of_code (map plain_cell (take i cells)) ++ x ∷ []) more
     ∙ sym (map-append of_code (map plain_cell (take i cells)) (plain_cell (get_or cells i d) ∷ []))
     ∙ ap (map of_code) (sym (map-append plain_cell (take i cells) (get_or cells i d ∷ [])))

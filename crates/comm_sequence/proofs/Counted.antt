@@ -1,16 +1,12 @@
 -- How often communications stand in lists, and how long the lists are.
-use Rattle.std.proofs.Common.{◌≡◌, ℕ, zero, suc, ◌+◌, ◌*◌, ◌≤◌, cond, nat_eq, zero-add, List, [], ◌∷◌, length, map, ap, sym, refl, ◌∙◌, arith}
-use Rattle.std.proofs.Math.Nat.{mul-le-mul_left}
-use Rattle.std.proofs.lemmas.List.{length-append}
+use Rattle.std.proofs.Common.{◌≡◌, ℕ, ◌+◌, ◌≤◌, cond, nat_eq, zero-add, List, [], ◌∷◌, length, map, ap, sym, refl, ◌∙◌, arith}
 use Rattle.std.proofs.lemmas.List.Sums.{sum_by-cons, sum_by-append, sum_by-le-sum_by}
-use Rattle.std.specs.List.{cons_option, count_by, filter_map, flat_map, sum_by}
-use Rattle.cell_types.specs.Code.{Action, Set, SetAt, Write, Read, Take, Emit, For, If, Block, End, Then, CellCode}
-use Rattle.cell_types.specs.Communications.{Communication, Writes, Reads, Takes, Emits, copies, same_communication, times, action_communications, block_communications}
-use Rattle.cell_types.specs.Cost.{action_cost, block_cost}
-use Rattle.comm_sequence.specs.Sequences.{comm_of, comms, writes}
-use Rattle.comm_sequence.specs.bodies.Unrolling.{communication_of, all_of}
+use Rattle.std.specs.List.{count_by, flat_map, sum_by}
+use Rattle.cell_types.specs.Code.{Block, CellCode}
+use Rattle.cell_types.specs.Communications.{Communication, Writes, Reads, Takes, Emits, times, block_communications}
+use Rattle.cell_types.specs.Cost.{block_cost}
+use Rattle.comm_sequence.specs.Sequences.{comms, writes}
 use Rattle.comm_sequence.specs.declared.comm.Comm.TheVariants as C
-use Rattle.comm_sequence.specs.declared.entry.Entry.{Entry}
 use Rattle.comm_sequence.proofs.Cells.{of_code}
 
 -- the writes of a message among communications are those among their writes and reads
@@ -32,19 +28,6 @@ counted_cells m (c ∷ cs) =
     ∙ ap (λ k. k + times (Writes m) (flat_map of_code cs)) (counted_comms m (of_code c))
     ∙ ap (λ k. count_by (writes m) (comms (of_code c)) + k) (counted_cells m cs)
     ∙ sym (sum_by-cons _ (comms (of_code c)) (map (λ c. comms (of_code c)) cs))
-
--- a count of entries is that of their communications
-pub counted_entries : (x : Communication) (es : List Entry)
-    → count_by (λ e. same_communication x (communication_of e)) es ≡ times x (all_of es)
-counted_entries x [] = refl
-counted_entries x (e ∷ es) =
-    sum_by-cons _ e es ∙ ap (λ k. cond (same_communication x (communication_of e)) 1 0 + k) (counted_entries x es)
-    ∙ sym (sum_by-cons _ (communication_of e) (all_of es))
-
--- the writes and reads of entries are those of their communications
-pub comms_of : (es : List Entry) → filter_map (λ e. comm_of (communication_of e)) es ≡ comms (all_of es)
-comms_of [] = refl
-comms_of (e ∷ es) = ap (cons_option (comm_of (communication_of e))) (comms_of es)
 
 -- no more writes and reads than communications
 pub fewer : (xs : List Communication) → length (comms xs) ≤ length xs

@@ -1,12 +1,10 @@
 -- The definitions, computed on small programs.
 use Rattle.std.proofs.Common.{◌≡◌, ℕ, zero, suc, Bool, true, ◌&&◌, ◌||◌, nat_eq, nat_le, nat_lt, List, [], ◌∷◌, map, filter, refl}
-use Rattle.std.specs.List.{flat_map}
 use Rattle.cell_types.specs.Code.{Number, Variable, Negated, Action, Set, Write, Read, Emit, For, If, Block, End, Then, CellCode}
 use Rattle.cell_types.specs.Communications.{Emits, times, block_communications}
 use Rattle.cell_types.specs.Cost.{block_cost}
 use Rattle.cell_types.specs.Groups.{below}
-use Rattle.comm_sequence.specs.BufferedOrder.{events, is_of}
-use Rattle.comm_sequence.specs.CrossingOrder.{seen}
+use Rattle.comm_sequence.specs.BufferedOrder.{is_of}
 use Rattle.comm_sequence.specs.Differing.{differing, differing_from}
 use Rattle.comm_sequence.specs.Labels.{proposed}
 use Rattle.comm_sequence.specs.Sequences.{comms}
@@ -93,11 +91,7 @@ above_limit = refl
 abbrev ends : List (ℕ × ℕ)
 ends = (0, 1) ∷ (0, 1) ∷ []
 
--- The first messages to cross are to each cell what they are.
-as_seen : flat_map (seen ends 1) (1 ∷ 0 ∷ 1 ∷ []) ≡ C.Read 1 ∷ C.Read 0 ∷ C.Read 1 ∷ []
-as_seen = refl
-
-as_events : filter (is_of ends 0) (events (1 ∷ 0 ∷ [])) ≡ C.Write 1 ∷ C.Write 0 ∷ []
+as_events : filter (is_of ends 0) (C.Write 1 ∷ C.Read 1 ∷ C.Write 0 ∷ C.Read 0 ∷ []) ≡ C.Write 1 ∷ C.Write 0 ∷ []
 as_events = refl
 
 -- With a buffer of 1 both are written before one is read.

@@ -1,5 +1,5 @@
 -- The meaning, computed on a filter of three cells and on two cells that agree.
-use Rattle.std.proofs.Common.{◌≡◌, ℕ, zero, suc, ◌+◌, ◌<◌, List, [], ◌∷◌, None, Some, length, slice_get, subst, refl, arith}
+use Rattle.std.proofs.Common.{◌≡◌, ℕ, zero, suc, ◌<◌, List, [], ◌∷◌, None, Some, length, slice_get, subst, refl, arith}
 use Rattle.std.specs.Prelude.{ℤ, pos}
 use Rattle.sys_base.specs.Held.{Streams}
 use Rattle.sys_base.specs.declared.kinds.Op.TheVariants.{Add, Mul}

@@ -1,5 +1,5 @@
 -- Orders with buffers of 0, 1 and 2: for each one that fits, and one that is one word over.
-use Rattle.std.proofs.Common.{◌≡◌, ℕ, zero, suc, ◌+◌, ◌<◌, ◌≤◌, Bool, true, false, cond, nat_eq, List, [], ◌∷◌, Some, filter, length, get_or, take, ap, refl, arith}
+use Rattle.std.proofs.Common.{◌≡◌, ℕ, zero, suc, ◌<◌, ◌≤◌, Bool, true, false, cond, nat_eq, List, [], ◌∷◌, Some, filter, get_or, take, ap, refl, arith}
 use Rattle.std.specs.List.{slice_index_or}
 use Rattle.comm_sequence.specs.BufferedOrder.{is_of, occurrences, IsBufferedOrder, KeepsBuffer}
 use Rattle.comm_sequence.specs.Sequences.{message_of}

@@ -1,12 +1,12 @@
 -- The test of two lists of communications, and entries as communications.
-use Rattle.std.proofs.Common.{◌≡◌, Bool, true, ◌&&◌, List, [], ◌∷◌, map, refl, ap, sym, ◌∙◌}
+use Rattle.std.proofs.Common.{◌≡◌, Bool, true, ◌&&◌, List, [], ◌∷◌, refl, ap, sym, ◌∙◌}
 use Rattle.std.specs.Cmp.{first_so, second_so}
 use Rattle.std.proofs.lemmas.Bool.Decides.{Decides-eqb, same_from_decides}
 use Rattle.std.specs.Bool.{Decides}
 use Rattle.cell_types.specs.Communications.{Communication, Writes, Reads, Takes, Emits, same_communication}
 use Rattle.comm_sequence.specs.contracts.entry.EntryPartialEq.TheImpl.{eq-value}
 use Rattle.comm_sequence.specs.Differing.{same_list}
-use Rattle.comm_sequence.specs.bodies.Unrolling.{communication_of, all_of}
+use Rattle.comm_sequence.specs.bodies.Unrolling.{communication_of}
 use Rattle.comm_sequence.specs.declared.entry.Entry.{Entry}
 use Rattle.comm_sequence.specs.declared.entry.Entry.TheVariants as E
 use Rattle.comm_sequence.proofs.Entries.{same_entry}
@@ -58,15 +58,6 @@ back (E.Write m) = refl
 back (E.Read m) = refl
 back E.Take = refl
 back E.Emit = refl
-
--- entries are those of their communications
-pub backs : (es : List Entry) → map entry_of (all_of es) ≡ es
-backs [] = refl
-backs (e ∷ es) = ap (λ x. x ∷ map entry_of (all_of es)) (back e) ∙ ap (λ xs. e ∷ xs) (backs es)
-
--- lists of entries that stand for the same communications are the same
-pub all_equal : (xs ys : List Entry) → all_of xs ≡ all_of ys → xs ≡ ys
-all_equal xs ys e = sym (backs xs) ∙ ap (map entry_of) e ∙ backs ys
 
 -- the test of entries is that of their communications
 pub same_test : (a b : Entry) (r : Bool) → r ≡ eq-value.it a b → r ≡ same_communication (communication_of a) (communication_of b)

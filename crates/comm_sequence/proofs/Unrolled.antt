@@ -1,24 +1,32 @@
--- The steps of unrolling: what a loop and arms add, and where a stop comes from.
-use Rattle.std.proofs.Common.{◌≡◌, ◌≢◌, ℕ, zero, suc, ◌+◌, ◌-◌, ◌<◌, Bool, true, false, if◌then◌else◌, List, [], ◌∷◌, ◌++◌, Result, Ok, Err, length, get_or, take, drop, ap, sym, subst, refl, ◌∙◌, arith, append_assoc}
-use Rattle.std.proofs.Math.Seq.{take-append_seam}
-use Rattle.std.proofs.lemmas.List.{at_drop_more, take-map, length-map, length-append}
+-- The steps of reading a body into parts: what loops and arms add, and where a stop comes from.
+use Rattle.std.proofs.Common.{◌≡◌, ◌≢◌, ℕ, zero, suc, ◌+◌, ◌^◌, ◌<◌, ◌≤◌, Bool, true, false, max, if◌then◌else◌, List, [], ◌∷◌, ◌++◌, Result, Ok, Err, Some, length, get_or, map, drop, ap, sym, subst, refl, ◌∙◌, arith, append_assoc}
+use Rattle.std.proofs.Math.Nat.{le-max_left, le-max_right, max-le}
+use Rattle.std.proofs.lemmas.List.{append-nil, at_drop_all, at_drop_more}
+use Rattle.std.proofs.lemmas.List.Elements.{All-nil, All-append}
 use Rattle.std.specs.Bool.{⊤}
 use Rattle.std.specs.Global.{Vec}
-use Rattle.std.specs.List.{slice_range}
+use Rattle.std.specs.List.{All, slice_get}
+use Rattle.cell_types.specs.Code.{Action, Set, SetAt, Write, Read, Take, Emit, For, If, Block, End, Then, CellCode, ProgramCode}
 use Rattle.cell_types.specs.Communications.{Communication, copies, action_communications, block_communications}
-use Rattle.cell_types.specs.Typed.{action_of, block_of}
+use Rattle.cell_types.specs.Depth.{action_loops, block_loops}
+use Rattle.cell_types.specs.Sound.{Means, SoundAction, SoundBlock, IsSound}
+use Rattle.cell_types.specs.Typed.{Contents, action_of, block_of, expression_of, plain, plain_cell}
+use Rattle.cell_types.specs.declared.cell.Cell.{Cell}
 use Rattle.cell_types.specs.declared.expression.TypedExpr.{TypedExpr}
 use Rattle.cell_types.specs.declared.statement.TypedAct.{TypedAct}
 use Rattle.cell_types.specs.declared.statement.TypedAct.TheVariants as T
 use Rattle.cell_types.specs.declared.statement.TypedStmt.{TypedStmt}
 use Rattle.comm_sequence.specs.Differing.{differing, differing_in, in_turns, same_list}
-use Rattle.comm_sequence.specs.bodies.Unrolling.{communication_of, IsFirstLine, IsUnrolled, IsRepeated, IsCutOff, all_of}
-use Rattle.comm_sequence.specs.declared.entry.Entry.{Entry}
+use Rattle.comm_sequence.specs.Parts.{unrolled, loops}
+use Rattle.comm_sequence.specs.bodies.Unrolling.{HaveTurns, HasTurns, IsArm, IsBuilt, IsFirstLine, IsShallow, IsShallowAction}
+use Rattle.comm_sequence.specs.bodies.Walking.{HasGrown, IsFull}
+use Rattle.comm_sequence.specs.declared.part.Part.{Part}
 use Rattle.comm_sequence.specs.declared.unrolling.Stop.{Stop}
 use Rattle.comm_sequence.specs.declared.unrolling.Stop.TheVariants as S
-use Rattle.comm_sequence.proofs.Pieces.{behind, looped}
+use Rattle.comm_sequence.proofs.Grown.{grown_as, unrolled_append}
+use Rattle.comm_sequence.proofs.PartRows.{first_loops, rest_loops}
 use Rattle.comm_sequence.proofs.Plain.{for_is, if_is}
-use Rattle.comm_sequence.proofs.SameLists.{same_self, same_equal, all_equal}
+use Rattle.comm_sequence.proofs.SameLists.{same_self, same_equal}
 
 -- a stop in the first of two parts
 pub front_stop : (xs ys : List ℕ) (stop : Stop) → IsFirstLine xs stop → IsFirstLine (xs ++ ys) stop
@@ -30,11 +38,6 @@ front_stop xs ys S.Memory h = tt
 pub back_stop : (xs ys : List ℕ) (stop : Stop) → xs ≡ [] → IsFirstLine ys stop → IsFirstLine (xs ++ ys) stop
 back_stop [] ys stop none h = h
 back_stop (x ∷ xs) ys stop none h = absurd (cc none)
-
--- one turn, and the others
-pub other_turns : (turns : ℕ) → turns ≢ 0 → suc (turns - 1) ≡ turns
-other_turns zero some = absurd (some refl)
-other_turns (suc n) some = omega arith
 
 -- a stop at a statement of a body, where no arms before it differ
 pub body_stop : (body : List TypedStmt) (i : ℕ) (d : TypedStmt) (stop : Stop) → i < length body
@@ -92,46 +95,6 @@ branch_list act test first second yes_items is same =
     ap (λ a. action_communications (action_of a)) is ∙ ap action_communications (if_is test first second)
     ∙ ap (λ xs. block_communications (block_of xs)) (sym same)
 
--- the same lines and communications, written otherwise
-pub unrolled_as : (old new : List Entry) (lines same_lines : List ℕ) (list same : List Communication) (result : Result ⊤ Stop)
-    → same_lines ≡ lines → same ≡ list → IsUnrolled old lines list result new → IsUnrolled old same_lines same result new
-unrolled_as old new lines same_lines list same result e f h =
-    let P : List ℕ → Type 0 = λ xs. IsUnrolled old xs same result new in
-    let Q : List Communication → Type 0 = λ xs. IsUnrolled old lines xs result new in
-    subst P (sym e) (subst Q (sym f) h)
-
--- the end of a loop
-pub loop_end : (old now new : List Entry) (lines : List ℕ) (list : List Communication) (start more : ℕ) (result : Result ⊤ Stop)
-    → lines ≡ [] → start ≡ length old → all_of now ≡ all_of old ++ list → IsRepeated now start more result new
-    → IsUnrolled old lines (copies (suc more) list) result new
-loop_end old now new lines list start more (Ok u) none at body h =
-    (none, looped old now new list more body (subst (λ s. IsRepeated now s more (Ok u) new) at h))
-loop_end old now new lines list start more (Err stop) none at body h = subst (IsFirstLine lines) (sym h) tt
-
--- the first arm, which stands between two places
-first_arm : (old one two : List Entry) (first second : List Communication) → all_of one ≡ all_of old ++ first
-    → all_of two ≡ all_of one ++ second → all_of (slice_range two (length old) (length one)) ≡ first
-first_arm old one two first second one_is two_is =
-    let n : ℕ = length one - length old in
-    let rest : List Communication = first ++ second in
-    let split : all_of two ≡ all_of old ++ rest =
-    two_is ∙ ap (λ xs. xs ++ second) one_is ∙ append_assoc (all_of old) first second in
-    let long : length one ≡ length old + length first =
-    sym (length-map one communication_of) ∙ ap length one_is ∙ length-append (all_of old) first
-    ∙ ap (λ k. k + length first) (length-map old communication_of) in
-    let size : n ≡ length first = omega (arith, long) in
-    sym (take-map communication_of n (drop (length old) two))
-    ∙ ap (take n) (behind old two rest split)
-    ∙ ap (λ k. take k rest) size ∙ take-append_seam first second
-
--- what stands before the second arm
-before_second : (one two : List Entry) (second : List Communication) → all_of two ≡ all_of one ++ second
-    → all_of (take (length one) two) ≡ all_of one
-before_second [] two second is = refl
-before_second (x ∷ one) [] second is = absurd (cc is)
-before_second (x ∷ one) (y ∷ two) second is =
-    ap (λ c. c ∷ all_of (take (length one) two)) (cc is) ∙ ap (λ cs. communication_of x ∷ cs) (before_second one two second (cc is))
-
 -- an `if` whose arms are the same has no line of its own
 own_none : (first second : List Communication) (line : ℕ) → first ≡ second
     → (if same_list first second then [] else line ∷ []) ≡ []
@@ -152,25 +115,176 @@ own_one first second line differ = by_test (same_list first second) refl
 third : (a b c d : List ℕ) → a ≡ [] → b ≡ [] → c ≡ d → a ++ b ++ c ≡ d
 third a b c d e f g = ap (λ x. x ++ b ++ c) e ∙ ap (λ x. x ++ c) f ∙ g
 
--- the end of an `if`
-pub branch_end : (old one two new : List Entry) (one_lines two_lines : List ℕ) (first second : List Communication)
-    (start middle line : ℕ) (result : Result ⊤ Stop) → one_lines ≡ [] → two_lines ≡ []
-    → start ≡ length old → middle ≡ length one → all_of one ≡ all_of old ++ first → all_of two ≡ all_of one ++ second
-    → IsCutOff two start middle line result new
-    → IsUnrolled old (one_lines ++ two_lines ++ (if same_list first second then [] else line ∷ [])) first result new
-branch_end old one two new one_lines two_lines first second start middle line (Ok u) none other at mid one_is two_is h =
-    let cut : IsCutOff two (length old) (length one) line (Ok u) new =
-    subst (λ m. IsCutOff two (length old) m line (Ok u) new) mid (subst (λ s. IsCutOff two s middle line (Ok u) new) at h) in
-    let same : first ≡ second =
-    sym (first_arm old one two first second one_is two_is) ∙ ap all_of cut.0 ∙ behind one two second two_is in (
-      third one_lines two_lines _ [] none other (own_none first second line same),
-      ap all_of cut.1 ∙ before_second one two second two_is ∙ one_is,
+-- How far a body is read: no arms differ so far, and what is left of it, with the parts that are added, is the body.
+pub record IsOnWay (body : List TypedStmt) (i : ℕ) (old now : List Part) : Type 0 where
+  pub lines : differing (block_of (drop i body)) ≡ differing (block_of body)
+  pub list : unrolled now ++ block_communications (block_of (drop i body)) ≡ unrolled old ++ block_communications (block_of body)
+  pub full : All IsFull old → All IsFull now
+  pub room : (room : ℕ) → loops old ≤ room → block_loops (block_of body) ≤ room → loops now ≤ room
+  pub shallow : IsShallow (block_of (drop i body))
+  pub loops : block_loops (block_of (drop i body)) ≤ block_loops (block_of body)
+
+-- nothing is read
+pub way_start : (body : List TypedStmt) (old : List Part) → IsShallow (block_of body) → IsOnWay body 0 old old
+way_start body old h =
+    record { lines = refl; list = refl; full = λ a. a; room = λ room a b. a; shallow = h; loops = omega arith }
+
+-- the statement that is next
+next_is : (body : List TypedStmt) (i : ℕ) (d : TypedStmt) → i < length body
+    → block_of (drop i body) ≡ Then (get_or body i d).line (action_of (get_or body i d).act) (block_of (drop (i + 1) body))
+next_is body i d lt = at_drop_more block_of body i d lt
+
+-- the statement that is next is shallow
+pub way_act : (body : List TypedStmt) (i : ℕ) (d : TypedStmt) (old now : List Part) → i < length body → IsOnWay body i old now
+    → IsShallowAction (action_of (get_or body i d).act)
+way_act body i d old now lt h =
+    let s = subst IsShallow (next_is body i d lt) h.shallow in
+    let a = action_of (get_or body i d).act in
+    (s.0.0, omega (arith, s.1, le-max_left (action_loops a) (block_loops (block_of (drop (i + 1) body)))))
+
+-- a statement more is read
+pub way_more : (body : List TypedStmt) (i : ℕ) (d : TypedStmt) (old now new : List Part) → i < length body → IsOnWay body i old now
+    → differing_in (get_or body i d).line (action_of (get_or body i d).act) ≡ []
+    → HasGrown now new (action_communications (action_of (get_or body i d).act)) (action_loops (action_of (get_or body i d).act))
+    → IsOnWay body (i + 1) old new
+way_more body i d old now new lt h none g =
+    let e = next_is body i d lt in
+    let a = action_of (get_or body i d).act in
+    let rest = block_of (drop (i + 1) body) in
+    let s = subst IsShallow e h.shallow in
+    let deep : max (action_loops a) (block_loops rest) ≤ block_loops (block_of body) = omega (arith, ap block_loops e, h.loops) in
+    let here : action_loops a ≤ block_loops (block_of body) = omega (arith, deep, le-max_left (action_loops a) (block_loops rest)) in
+    let there : block_loops rest ≤ block_loops (block_of body) = omega (arith, deep, le-max_right (action_loops a) (block_loops rest)) in
+    record {
+      lines = ap (λ xs. xs ++ differing rest) (sym none) ∙ ap differing (sym e) ∙ h.lines;
+      list = ap (λ xs. xs ++ block_communications rest) g.list ∙ append_assoc (unrolled now) (action_communications a) (block_communications rest)
+          ∙ ap (λ b. unrolled now ++ block_communications b) (sym e) ∙ h.list;
+      full = λ x. g.full (h.full x);
+      room = λ room x y. g.room room (h.room room x y) (omega (arith, here, y));
+      shallow = (s.0.1, omega (arith, s.1, le-max_right (action_loops a) (block_loops rest)));
+      loops = there;
+    }
+
+-- all is read
+pub way_end : (body : List TypedStmt) (i : ℕ) (old now : List Part) → length body ≤ i → IsOnWay body i old now
+    → (differing (block_of body) ≡ []) × HasGrown old now (block_communications (block_of body)) (block_loops (block_of body))
+way_end body i old now le h =
+    let e = at_drop_all block_of body i le in (
+      sym h.lines ∙ ap differing e,
+      record {
+        list = sym (append-nil (unrolled now)) ∙ ap (λ b. unrolled now ++ block_communications b) (sym e) ∙ h.list;
+        full = h.full;
+        room = h.room;
+      },
     )
-branch_end old one two new one_lines two_lines first second start middle line (Err stop) none other at mid one_is two_is h =
-    let cut : IsCutOff two (length old) (length one) line (Err stop) new =
-    subst (λ m. IsCutOff two (length old) m line (Err stop) new) mid (subst (λ s. IsCutOff two s middle line (Err stop) new) at h) in
-    let differ : first ≢ second = λ same. cut.0 (all_equal (slice_range two (length old) (length one)) (drop (length one) two)
-    (first_arm old one two first second one_is two_is ∙ same ∙ sym (behind one two second two_is))) in
+
+-- parts that grew from nothing
+pub fresh : (start now : List Part) (list : List Communication) (deep : ℕ) → start ≡ [] → HasGrown start now list deep
+    → (unrolled now ≡ list) × All IsFull now × (loops now ≤ deep)
+fresh start now list deep none h =
+    let g : HasGrown [] now list deep = subst (λ xs. HasGrown xs now list deep) none h in
+    (g.list, g.full (All-nil IsFull), g.room deep (omega arith) (omega arith))
+
+-- the same, written otherwise, where no arms differ
+pub built_as : (old new : List Part) (lines : List ℕ) (list same : List Communication) (deep deeper : ℕ) (result : Result ⊤ Stop)
+    → lines ≡ [] → list ≡ same → deep ≤ deeper → IsBuilt old [] list deep result new → IsBuilt old lines same deeper result new
+built_as old new lines list same deep deeper (Ok u) none e le h = (none, grown_as old new list same deep deeper e le h.1)
+built_as old new lines list same deep deeper (Err stop) none e le h = subst (λ xs. IsFirstLine xs stop) (sym none) h
+
+-- the body of a loop is shallow, and its turns fit
+pub shallow_body : (act : TypedAct) (counter turns : ℕ) (body : Vec TypedStmt) (items : List TypedStmt)
+    → act ≡ T.For counter turns body → items ≡ body.items → IsShallowAction (action_of act)
+    → (turns < 2 ^ 32) × IsShallow (block_of items) × (action_loops (action_of act) ≡ 1 + block_loops (block_of items))
+shallow_body act counter turns body items is same h =
+    let e : action_of act ≡ For counter turns (block_of items) =
+    ap action_of is ∙ for_is counter turns body ∙ ap (λ xs. For counter turns (block_of xs)) (sym same) in
+    let s = subst IsShallowAction e h in
+    (s.0.0, (s.0.1, omega (arith, s.1)), ap action_loops e)
+
+-- the arms of an `if` are shallow
+pub shallow_arms : (act : TypedAct) (test : TypedExpr) (one other_arm : Vec TypedStmt) (first second : List TypedStmt)
+    → act ≡ T.If test one other_arm → first ≡ one.items → second ≡ other_arm.items → IsShallowAction (action_of act)
+    → IsShallow (block_of first) × IsShallow (block_of second)
+    × (block_loops (block_of first) ≤ action_loops (action_of act))
+shallow_arms act test one other_arm first second is same other h =
+    let e : action_of act ≡ If (expression_of test) (block_of first) (block_of second) =
+    ap action_of is ∙ if_is test one other_arm
+    ∙ ap (λ xs. If (expression_of test) (block_of xs) (block_of other_arm.items)) (sym same)
+    ∙ ap (λ xs. If (expression_of test) (block_of first) (block_of xs)) (sym other) in
+    let s = subst IsShallowAction e h in
+    let l = le-max_left (block_loops (block_of first)) (block_loops (block_of second)) in
+    let r = le-max_right (block_loops (block_of first)) (block_loops (block_of second)) in
+    ((s.0.0, omega (arith, s.1, l)), (s.0.1, omega (arith, s.1, r)), omega (arith, ap action_loops e, l))
+
+-- the end of an `if`
+pub arm_end : (old new : List Part) (one_lines two_lines : List ℕ) (first second one two : List Communication) (line deep deeper : ℕ)
+    (result : Result ⊤ Stop) → one_lines ≡ [] → two_lines ≡ [] → one ≡ first → two ≡ second → deep ≤ deeper
+    → IsArm old one two line deep result new
+    → IsBuilt old (one_lines ++ two_lines ++ (if same_list first second then [] else line ∷ [])) first deeper result new
+arm_end old new one_lines two_lines first second one two line deep deeper (Ok u) none other e f le h =
+    (third one_lines two_lines _ [] none other (own_none first second line (sym e ∙ h.0 ∙ f)), grown_as old new one first deep deeper e le h.1)
+arm_end old new one_lines two_lines first second one two line deep deeper (Err (S.Differ at)) none other e f le h =
     let lines : one_lines ++ two_lines ++ (if same_list first second then [] else line ∷ []) ≡ line ∷ [] =
-    third one_lines two_lines _ (line ∷ []) none other (own_one first second line differ) in
-    subst (λ xs. IsFirstLine xs stop) (sym lines) (subst (IsFirstLine (line ∷ [])) (sym cut.1) refl)
+    third one_lines two_lines _ (line ∷ []) none other (own_one first second line (λ same. h.0 (e ∙ same ∙ sym f))) in
+    subst (λ xs. IsFirstLine xs (S.Differ at)) (sym lines) (subst (λ n. IsFirstLine (line ∷ []) (S.Differ n)) (sym h.1) refl)
+arm_end old new one_lines two_lines first second one two line deep deeper (Err S.Memory) none other e f le h = tt
+
+-- the same lines and communications, written otherwise
+pub built_same : (old new : List Part) (lines same_lines : List ℕ) (list same : List Communication) (deep : ℕ) (result : Result ⊤ Stop)
+    → same_lines ≡ lines → same ≡ list → IsBuilt old lines list deep result new → IsBuilt old same_lines same deep result new
+built_same old new lines same_lines list same deep result e f h =
+    let P : List ℕ → Type 0 = λ xs. IsBuilt old xs same deep result new in
+    let Q : List Communication → Type 0 = λ xs. IsBuilt old lines xs deep result new in
+    subst P (sym e) (subst Q (sym f) h)
+
+-- the loops of parts one after another
+loops_append : (xs ys : List Part) (room : ℕ) → loops xs ≤ room → loops ys ≤ room → loops (xs ++ ys) ≤ room
+loops_append [] ys room h k = k
+loops_append (x ∷ xs) ys room h k =
+    max-le (omega (arith, first_loops x xs, h)) (loops_append xs ys room (omega (arith, rest_loops x xs, h)) k)
+
+-- parts with others behind them
+pub grown_by : (old new more : List Part) → All IsFull more → new ≡ old ++ more → HasGrown old new (unrolled more) (loops more)
+grown_by old new more full is =
+    record {
+      list = ap unrolled is ∙ unrolled_append old more;
+      full = λ a. subst (All IsFull) (sym is) (All-append IsFull old more a full);
+      room = λ room a b. omega (arith, ap loops is, loops_append old more room a b);
+    }
+
+mutual
+  -- the loops of a sound action have turns that fit
+  turns_fit_action : (m : Means) (depth : ℕ) (a : Action) → SoundAction m depth a → HasTurns a
+  turns_fit_action m depth (Set word value) h = tt
+  turns_fit_action m depth (SetAt base len index value) h = tt
+  turns_fit_action m depth (Write message value) h = tt
+  turns_fit_action m depth (Read message word) h = tt
+  turns_fit_action m depth (Take word) h = tt
+  turns_fit_action m depth (Emit value) h = tt
+  turns_fit_action m depth (For counter turns body) h = (omega (arith, h.2), turns_fit_block m (depth + 1) body h.3)
+  turns_fit_action m depth (If test first second) h = (turns_fit_block m depth first h.1, turns_fit_block m depth second h.2)
+
+  -- so do those of sound statements
+  turns_fit_block : (m : Means) (depth : ℕ) (b : Block) → SoundBlock m depth b → HaveTurns b
+  turns_fit_block m depth End h = tt
+  turns_fit_block m depth (Then line action rest) h = (turns_fit_action m depth action h.0, turns_fit_block m depth rest h.1)
+
+-- the statements of a cell of a sound program are shallow
+pub sound_shallow : (p : ProgramCode) (index : ℕ) (cell : CellCode) → IsSound p → slice_get p.cells index ≡ Some cell → IsShallow cell.body
+sound_shallow p index cell sound at =
+    let s = sound.cells index cell at in
+    (turns_fit_block _ 0 cell.body s.body, omega (arith, s.counters, s.loops))
+
+-- a cell as plain data
+mapped_cell : (cells : List Cell) (i : ℕ) (d : Cell) → i < length cells
+    → slice_get (map plain_cell cells) i ≡ Some (plain_cell (get_or cells i d))
+mapped_cell [] i d lt = absurd (omega (arith, lt))
+mapped_cell (c ∷ cells) zero d lt = refl
+mapped_cell (c ∷ cells) (suc i) d lt = mapped_cell cells i d (omega (arith, lt))
+
+-- the statements of a cell of a program are shallow
+pub cell_shallow : (p : Contents) (cells : List Cell) (i : ℕ) (d : Cell) → IsSound (plain p) → cells ≡ p.cells → i < length cells
+    → IsShallow (block_of (get_or cells i d).body.items)
+cell_shallow p cells i d sound is lt =
+    sound_shallow (plain p) i (plain_cell (get_or cells i d)) sound
+    (ap (λ cs. slice_get (map plain_cell cs) i) (sym is) ∙ mapped_cell cells i d lt)

@@ -1,9 +1,17 @@
 -- Orders of single writes and reads, with a buffer between the write of a word and its read.
-use Rattle.std.specs.Prelude.{ℕ, zero, suc, ◌≡◌, ◌+◌, ◌<◌, ◌≤◌, Bool, false, List, [], ◌∷◌, Some, nat_eq, length, take, filter, count_by, slice_get, slice_index_or, All, EachIndex}
-use Rattle.comm_sequence.specs.CrossingOrder.{sends, receives}
+use Rattle.std.specs.Prelude.{ℕ, zero, suc, ◌≡◌, ◌+◌, ◌<◌, ◌≤◌, Bool, false, List, [], Some, nat_eq, length, take, filter, count_by, slice_get, slice_index_or, All, EachIndex}
+use Rattle.std.specs.Option.{option_map_or}
 use Rattle.comm_sequence.specs.Sequences.{message_of}
 use Rattle.comm_sequence.specs.declared.comm.Comm.{Comm}
 use Rattle.comm_sequence.specs.declared.comm.Comm.TheVariants.{Write, Read}
+
+-- whether a cell sends a message, by the ends of the messages
+abbrev pub sends : List (ℕ × ℕ) → ℕ → ℕ → Bool
+sends ends cell message = option_map_or (λ e. nat_eq e.0 cell) (slice_get ends message) false
+
+-- whether a cell receives a message
+abbrev pub receives : List (ℕ × ℕ) → ℕ → ℕ → Bool
+receives ends cell message = option_map_or (λ e. nat_eq e.1 cell) (slice_get ends message) false
 
 -- whether two operations are the same
 abbrev pub same : Comm → Comm → Bool
@@ -40,8 +48,3 @@ pub record IsBufferedOrder (lists : List (List Comm)) (ends : List (ℕ × ℕ))
       → occurrences (Read message) (take n events) ≤ occurrences (Write message) (take n events)
   pub whole : (message : ℕ) → occurrences (Write message) events ≡ occurrences (Read message) events
   pub kept : KeepsBuffer buffer events
-
--- the operations of messages that are crossed off one after another: each is written, and then read
-abbrev pub events : List ℕ → List Comm
-events [] = []
-events (m ∷ ms) = Write m ∷ Read m ∷ events ms

@@ -1,8 +1,9 @@
 pub mod bodies
 pub mod BufferedOrder
-pub mod CrossingOrder
 pub mod Differing
+pub mod Gathered
 pub mod Labels
 pub mod Meaning
+pub mod Parts
 pub mod ProgramLabels
 pub mod Sequences

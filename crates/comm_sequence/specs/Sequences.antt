@@ -1,6 +1,6 @@
 -- What the cells of a program write and read, as whole lists, with the lengths of messages and the counts of words.
-use Rattle.std.specs.Prelude.{ℕ, ◌≡◌, ◌≢◌, ◌<◌, ◌≤◌, Bool, false, List, [], nat_eq, length, map, filter_map, sum_by, count_by, slice_get, slice_index, slice_index_or, All, Option, Some, None, IsSomeAnd, EachIndex}
-use Rattle.sys_base.specs.declared.limits.TheConstants.{MESSAGES, STEPS}
+use Rattle.std.specs.Prelude.{ℕ, ◌≡◌, ◌≢◌, ◌<◌, ◌≤◌, ◌^◌, Bool, false, List, [], nat_eq, length, map, filter_map, sum_by, count_by, slice_get, slice_index, slice_index_or, All, Option, Some, None, IsSomeAnd, EachIndex}
+use Rattle.sys_base.specs.declared.limits.TheConstants.{MESSAGES}
 use Rattle.cell_types.specs.Code.{ProgramCode}
 use Rattle.cell_types.specs.Communications.{Communication, Writes, Reads, Takes, Emits, communications, takes_of, emits_of}
 use Rattle.cell_types.specs.Groups.{below, lengths_of}
@@ -56,7 +56,7 @@ IsAtItsEnd ends cell (Read m) = IsSomeAnd (slice_get ends m) (λ e. e.1 ≡ cell
 
 -- What the type of sequences keeps: there are at most 256 cells and 512 messages, each message goes from one cell to
 -- another one, the lists are of these messages, only its sender writes one and only its receiver reads it, its length
--- is how often it is written, and all lists together have at most 4,194,304 entries.
+-- is how often it is written, and all lists together have fewer than 2^32 entries.
 pub record IsSequences (s : Sequences) : Type 0 where
   pub cells : length s.lists ≤ 256
   pub messages : length s.ends ≤ MESSAGES
@@ -68,4 +68,4 @@ pub record IsSequences (s : Sequences) : Type 0 where
   pub known : All (λ list. All (λ c. message_of c < length s.ends) list) s.lists
   pub owned : EachIndex s.lists (λ cell. All (IsAtItsEnd s.ends cell) (slice_index_or s.lists cell []))
   pub counted : EachIndex s.lengths (λ m. slice_index s.lengths m ≡ sum_by (count_by (writes m)) s.lists)
-  pub few : sum_by length s.lists ≤ STEPS
+  pub few : sum_by length s.lists < 2 ^ 32

@@ -3,7 +3,7 @@ ghost use Rattle.cell_types.specs.Typed.{plain};
 
 use cell_types::Program;
 
-/// The cost of all cells of a program together, in steps, 0 to 4,194,304 (`docs/model.md`, "Cost"); `None` exactly
+/// The cost of all cells of a program together, in steps, 0 to 16,777,216 (`docs/model.md`, "Cost"); `None` exactly
 /// where it is more.
 ///
 /// It takes no memory, and passes over no statement: each cell keeps its own cost.

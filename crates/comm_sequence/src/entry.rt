@@ -1,5 +1,6 @@
 ghost use Rattle.std.specs.Prelude.{◌≡◌};
 ghost use Rattle.cell_types.specs.Communications.{same_communication};
+ghost use Rattle.comm_sequence.specs.Parts.{communication};
 ghost use Rattle.comm_sequence.specs.Sequences.{comm_of};
 ghost use Rattle.comm_sequence.specs.bodies.Unrolling.{communication_of};
 
@@ -15,6 +16,16 @@ pub enum Entry {
 }
 
 impl Entry {
+    /// The entry of a write or a read.
+    pub fn of(operation: Comm) -> Entry
+        ensures { communication_of result ≡ communication operation }
+    {
+        match operation {
+            Comm::Write(message) => Entry::Write(message),
+            Comm::Read(message) => Entry::Read(message),
+        }
+    }
+
     /// The write or the read, if it is one.
     pub fn comm(self) -> Option<Comm>
         ensures { result ≡ comm_of (communication_of self) }

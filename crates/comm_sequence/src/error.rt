@@ -2,6 +2,7 @@ ghost use Rattle.std.specs.Prelude.{◌≡◌};
 ghost use Rattle.comm_sequence.specs.declared.error.CommError.TheVariants as C;
 
 use std::alloc::{AllocError, AllocFailed};
+use sys_base::Memory;
 use thiserror::Error;
 
 /// Why the cells of a program have no sequences: arms that communicate differently, or want of memory.
@@ -27,6 +28,14 @@ impl<T: Drop> From<AllocFailed<T>> for CommError {
     ghost from_gives = { λ _ e. e ≡ C.Memory };
 
     fn from(_error: AllocFailed<T>) -> CommError {
+        CommError::Memory
+    }
+}
+
+impl From<Memory> for CommError {
+    ghost from_gives = { λ _ e. e ≡ C.Memory };
+
+    fn from(_error: Memory) -> CommError {
         CommError::Memory
     }
 }

@@ -1,19 +1,21 @@
-ghost use Rattle.std.specs.Prelude.{◌≡◌, ◌<◌, [], length, slice_get, slice_index, slice_index_or, Some};
+ghost use Rattle.std.specs.Prelude.{◌≡◌, ◌<◌, [], length, slice_get, slice_index, slice_index_or, All, Some};
 ghost use Rattle.comm_sequence.specs.Sequences.{IsSequences};
+ghost use Rattle.comm_sequence.specs.bodies.Walking.{from_trees, AreWalked};
 
-use crate::comm::Comm;
 use crate::cursor::Cursor;
+use crate::part::Part;
 use std::marker::Model;
 use sys_base::Items;
 
 /// What the cells of a program write and read, the lengths of its messages, and how many words its cells take and emit
 /// (`docs/model.md`, "Lists").
 ///
-/// There are at most 256 cells and 512 messages, and at most 4,194,304 writes and reads in all lists together. A
+/// There are at most 256 cells and 512 messages, and fewer than 2^32 writes and reads in all lists together. A
 /// message goes from one cell to another one; only its sender writes it, and only its receiver reads it.
 #[derive(Debug, Drop)]
 pub struct Seqs {
-    lists: Items<Items<Comm>>,
+    /// The writes and reads of each cell, in loops that have some.
+    trees: Items<Items<Part>>,
     lengths: Items<u32>,
     takes: Items<u32>,
     emits: Items<u32>,
@@ -21,8 +23,9 @@ pub struct Seqs {
 }
 
 impl Model for Seqs {
-    ghost use Rattle.std.specs.Prelude.{List};
+    ghost use Rattle.std.specs.Prelude.{All};
     ghost use Rattle.comm_sequence.specs.Sequences.{Sequences, IsSequences};
+    ghost use Rattle.comm_sequence.specs.bodies.Walking.{from_trees, AreWalked};
     ghost use Rattle.comm_sequence.specs.contracts.comm.Comm as comm;
     ghost use Rattle.std.specs.Coded.{codes};
 
@@ -30,29 +33,26 @@ impl Model for Seqs {
 
     ghost coded = { Prim.hlevel (codes, comm.the_row.coded) };
 
-    ghost view = { λ s.
-        record { lists = s.lists; lengths = s.lengths; takes = s.takes; emits = s.emits; ends = s.ends } };
+    ghost view = { λ s. from_trees s.trees s.lengths s.takes s.emits s.ends };
 
-    ghost invariant = { λ s.
-        IsSequences
-        (record { lists = s.lists; lengths = s.lengths; takes = s.takes; emits = s.emits; ends = s.ends }) };
+    ghost invariant = { λ s. IsSequences (from_trees s.trees s.lengths s.takes s.emits s.ends) × All AreWalked s.trees };
 }
 
 impl Seqs {
     /// The sequences with these parts.
     pub(crate) fn new(
-        lists: Items<Items<Comm>>,
+        trees: Items<Items<Part>>,
         lengths: Items<u32>,
         takes: Items<u32>,
         emits: Items<u32>,
         ends: Items<(u16, u16)>,
     ) -> Seqs
-        requires { IsSequences
-            (record { lists = lists; lengths = lengths; takes = takes; emits = emits; ends = ends }) }
-        ensures { result ≡ record { lists = lists; lengths = lengths; takes = takes; emits = emits; ends = ends } }
+        requires sequences { IsSequences (from_trees trees lengths takes emits ends) }
+        requires walked { All AreWalked trees }
+        ensures { result ≡ from_trees trees lengths takes emits ends }
     {
         Seqs {
-            lists,
+            trees,
             lengths,
             takes,
             emits,
@@ -66,13 +66,13 @@ impl Seqs {
         ensures list { result ≡ slice_index_or self.now.lists cell [] }
         ensures kept { IsSequences self.now }
     {
-        match self.lists.get(usize::from(cell)) {
-            Some(list) => Cursor::new(list.as_slice()),
+        match self.trees.get(usize::from(cell)) {
+            Some(parts) => Cursor::new(parts.as_slice()),
             None => Cursor::new(&[]),
         }
     }
 
-    /// The length of a message in words, which is its number of writes, 0 to 4,194,304. The message's index is below
+    /// The length of a message in words, which is its number of writes. The message's index is below
     /// `messages()`.
     pub fn length(&self, message: u16) -> u32
         requires { message < length self.now.ends }
@@ -115,7 +115,7 @@ impl Seqs {
         ensures cells { result ≡ length self.now.lists }
         ensures kept { IsSequences self.now }
     {
-        self.lists.len() as u16
+        self.trees.len() as u16
     }
 
     /// The number of messages, at most 512.

@@ -1,24 +1,25 @@
-use Rattle.std.proofs.Common.{◌<◌, length, ap, ◌∙◌, arith}
+use Rattle.std.proofs.Common.{length, map, ap, sym, subst, ◌∙◌}
 use Rattle.std.proofs.lemmas.List.{take_all}
 use Rattle.std.proofs.lemmas.List.FromFn.{fill_by_all}
-use Rattle.std.specs.List.{count_by, slice_index, sum_by}
-use Rattle.comm_sequence.specs.Sequences.{writes}
-use Rattle.comm_sequence.proofs.Lengths.{room_for}
+use Rattle.std.specs.List.{slice_index, sum_by}
+use Rattle.cell_types.specs.Communications.{Writes, times}
+use Rattle.comm_sequence.specs.Parts.{unrolled}
+use Rattle.comm_sequence.specs.bodies.Walking.{CanAdd}
+use Rattle.comm_sequence.proofs.Trees.{can_add_tree}
 use Rattle.comm_sequence.proofs.gathering.lengths_of.Goals as goal
 
-pub count_writes-requires-clause-room : goal.count_writes-requires-clause-room
-count_writes-requires-clause-room c = λ i lt.
-    let long = ap length c.deref_mut.ensures.value in
-    let below : i < c.args.messages = omega (arith, lt, long, c.loop-list.invariant.0) in
-    let room = room_for c.args.lists.now c.loop-list.list-index i c.list-item.result (slice_index c.deref_mut.result.now i)
-    c.loop-list-test.true c.list-item.is c.requires.few
-    (ap (λ xs. slice_index xs i) c.deref_mut.ensures.value ∙ c.loop-list.invariant.1 i below) in
-    omega (arith, room, ap length c.as_slice.ensures)
+pub add_writes-requires-clause-room : goal.add_writes-requires-clause-room
+add_writes-requires-clause-room c =
+    let now = c.deref_mut.result.now in
+    subst (λ ps. CanAdd now 1 (unrolled ps)) (sym (c.as_slice.ensures ∙ c.parts-item.is))
+    (can_add_tree c.args.trees.now c.loop-parts.parts-index c.args.messages c.parts-item.result now c.loop-parts-test.true
+    (ap length c.deref_mut.ensures.value ∙ c.loop-parts.invariant.0) c.requires.messages c.requires.few
+    (λ m lt. ap (λ xs. slice_index xs m) c.deref_mut.ensures.value ∙ c.loop-parts.invariant.1 m lt))
 
 pub returns : goal.returns
 returns c =
     c.from_vec.ensures
-    ∙ fill_by_all (λ m. sum_by (count_by (writes m)) c.args.lists.now) c.loop-list.lengths.items c.args.messages 0
-    c.loop-list.invariant.0
-    (λ k lt. c.loop-list.invariant.1 k lt
-    ∙ ap (sum_by (count_by (writes k))) (take_all c.loop-list.list-index c.args.lists.now c.loop-list-test.false))
+    ∙ fill_by_all (λ m. sum_by (times (Writes m)) (map unrolled c.args.trees.now)) c.loop-parts.lengths.items c.args.messages 0
+    c.loop-parts.invariant.0
+    (λ k lt. c.loop-parts.invariant.1 k lt
+    ∙ ap (λ ts. sum_by (times (Writes k)) (map unrolled ts)) (take_all c.loop-parts.parts-index c.args.trees.now c.loop-parts-test.false))
