@@ -1,9 +1,8 @@
 -- The answer, once no operation may be crossed any more.
-use Rattle.std.proofs.Common.{◌≡◌, ◌≢◌, ℕ, ◌+◌, ◌<◌, ◌≤◌, List, [], ◌∷◌, ◌++◌, length, map, sum_by, slice_get, slice_index_or, sym, ◌∙◌, ap, arith}
+use Rattle.std.proofs.Common.{◌≡◌, ◌≢◌, ℕ, ◌+◌, ◌^◌, ◌<◌, ◌≤◌, List, [], ◌∷◌, ◌++◌, length, map, sum_by, slice_get, slice_index_or, sym, ◌∙◌, ap, arith}
 use Rattle.std.proofs.lemmas.List.{length-drop}
 use Rattle.std.proofs.lemmas.Simd.{map-map}
 use Rattle.std.proofs.lemmas.List.Sums.{sum_by-append, sum_by-cons}
-use Rattle.sys_base.specs.declared.limits.TheConstants.{STEPS}
 use Rattle.cell_types.specs.Groups.{below}
 use Rattle.comm_sequence.specs.Sequences.{Sequences}
 use Rattle.comm_sequence.specs.declared.comm.Comm.{Comm}
@@ -19,7 +18,7 @@ use Rattle.crossing_off.proofs.Runs.{holds_all}
 use Rattle.crossing_off.proofs.Whole.{may_all, whole_order}
 
 -- no more is left than the lists have
-pub left_few : (s : Sequences) (buffer : ℕ) (now : Crossing) → IsUnderWay s buffer now → sum_by length now.rests.items ≤ STEPS
+pub left_few : (s : Sequences) (buffer : ℕ) (now : Crossing) → IsUnderWay s buffer now → sum_by length now.rests.items < 2 ^ 32
 left_few s buffer now h =
     let order = now.order.items in
     let few = h.sound.few in

@@ -1,10 +1,11 @@
 -- How often messages are read, list by list.
-use Rattle.std.proofs.Common.{◌≡◌, ◌≢◌, ℕ, zero, suc, ◌+◌, ◌<◌, ◌≤◌, ◌^◌, Bool, true, false, cond, nat_eq, nat_lt, List, [], ◌∷◌, Option, None, Some, All, IsSomeAnd, length, get_or, set, slice_get, slice_index, slice_index_or, sym, ◌∙◌, ap, subst, refl, ⊎_elim, arith}
+use Rattle.std.proofs.Common.{◌≡◌, ◌≢◌, ℕ, zero, suc, ◌+◌, ◌<◌, ◌≤◌, ◌^◌, Bool, true, false, cond, nat_eq, nat_lt, List, [], ◌∷◌, Option, None, Some, All, IsSomeAnd, length, get_or, set, slice_get, slice_index, slice_index_or, sym, ◌∙◌, ap, subst, refl, ⊎_elim, inl, inr, arith}
 use Rattle.std.specs.Option.{option_map_or}
-use Rattle.std.proofs.lemmas.Bool.{cases_eq, cases_order, eq-eqb, lt-ltb, le-ltb, ne_eqb}
+use Rattle.std.proofs.lemmas.Bool.{cases_eq, cases_lt, cases_order, eq-eqb, lt-ltb, le-ltb, ne_eqb}
 use Rattle.std.proofs.lemmas.List.{get_or-set_same, get_or-set_other}
 use Rattle.std.proofs.lemmas.List.Elements.{All-head, All-tail}
-use Rattle.std.proofs.lemmas.List.Sums.{count_by-le-length, get_or-le-sum_by}
+use Rattle.std.proofs.lemmas.List.Sums.{count_by-le-length, get_or-le-sum_by, sum_by-cons}
+use Rattle.std.specs.List.{sum_by}
 use Rattle.comm_sequence.specs.BufferedOrder.{occurrences, same}
 use Rattle.comm_sequence.specs.Sequences.{Sequences, IsAtItsEnd, IsSequences, message_of}
 use Rattle.comm_sequence.specs.declared.comm.Comm.{Comm}
@@ -71,21 +72,30 @@ wanted_all s m e cell sound at all =
     ap {B = ℕ} (λ b. cond b (occurrences (Read m) (slice_index_or s.lists e.1 [])) 0) (lt-ltb e.1 cell (omega (arith, all, h.receiver_in)))
     ∙ sym (ap (λ o. option_map_or (λ (x : ℕ × ℕ). occurrences (Read m) (slice_index_or s.lists x.1 [])) o 0) at)
 
+-- two lists are no longer than all of them
+two_lists : (xs : List (List Comm)) (i j : ℕ) → i < j → j < length xs
+    → length (get_or xs i []) + length (get_or xs j []) ≤ sum_by length xs
+two_lists [] i j less lt = absurd (omega (arith, lt))
+two_lists (x ∷ xs) i zero less lt = absurd (omega (arith, less))
+two_lists (x ∷ xs) zero (suc j) less lt =
+    omega (arith, sum_by-cons length x xs, get_or-le-sum_by length xs j [] (omega (arith, lt)))
+two_lists (x ∷ xs) (suc i) (suc j) less lt =
+    omega (arith, sum_by-cons length x xs, two_lists xs i j (omega (arith, less)) (omega (arith, lt)))
+
 -- there is room for one list more
 pub wanted_room : (s : Sequences) (m : ℕ) (e : ℕ × ℕ) (cell old : ℕ) → IsSequences s → cell < length s.lists → slice_get s.ends m ≡ Some e
     → old ≡ read_so_far s m e cell → old + length (slice_index_or s.lists cell []) < 2 ^ 32
 wanted_room s m e cell old sound l at is =
-    let h = has_ends_at s m e sound at in
     let here = slice_index_or s.lists e.1 [] in
     let one = count_by-le-length (same (Read m)) here in
-    let short = get_or-le-sum_by length s.lists e.1 [] h.receiver_in in
-    let other = get_or-le-sum_by length s.lists cell [] l in
-    let most : cond (nat_lt e.1 cell) (occurrences (Read m) here) 0 ≤ occurrences (Read m) here = at_most (nat_lt e.1 cell) (occurrences (Read m) here) in
-    omega (arith, is, one, short, other, most, sound.few)
-  where
-    at_most : (b : Bool) (n : ℕ) → cond b n 0 ≤ n
-    at_most true n = omega arith
-    at_most false n = omega arith
+    elim (cases_lt e.1 cell) as (λ _. old + length (slice_index_or s.lists cell []) < 2 ^ 32) [
+      | inl before ↦
+          let counted = ap {B = ℕ} (λ b. cond b (occurrences (Read m) here) 0) (lt-ltb e.1 cell before) in
+          omega (arith, is, counted, one, two_lists s.lists e.1 cell before l, sound.few)
+      | inr from ↦
+          let none = ap {B = ℕ} (λ b. cond b (occurrences (Read m) here) 0) (le-ltb e.1 cell from) in
+          omega (arith, is, none, get_or-le-sum_by length s.lists cell [] l, sound.few)
+    ]
 
 -- ---- along a list
 -- a read is counted

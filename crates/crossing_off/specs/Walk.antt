@@ -43,7 +43,8 @@ pub record IsWalkOver (s : Sequences) (fronts : List (Option Comm)) (waits : Lis
   pub are_waits : All (IsWait s fronts) waits
   pub goes_on : (k : ℕ) (wait next : Wait) → slice_get waits k ≡ Some wait → slice_get waits (suc k) ≡ Some next
       → next.cell ≡ wait.partner
-  pub differ : (j k : ℕ) (a b : Wait) → slice_get waits j ≡ Some a → slice_get waits k ≡ Some b → a.cell ≡ b.cell → j ≡ k
+  pub differ : (j k : ℕ) (a b : Wait) → slice_get waits j ≡ Some a → slice_get waits k ≡ Some b → a.cell ≡ b.cell
+      → j ≡ k
   pub ends : IsEnd fronts waits end
 
 -- The walk is one of the residue.

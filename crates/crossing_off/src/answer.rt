@@ -5,7 +5,7 @@ use comm_sequence::Comm;
 /// The ranges are those of a residue that `cross` gives.
 #[derive(Debug, Drop)]
 pub struct Residue {
-    /// How many writes and reads are left in all lists together, 1 to 4,194,304.
+    /// How many writes and reads are left in all lists together, at least 1.
     pub left: u32,
     /// The first operation that is left in the list of each cell, at the cell's index; `None` where nothing is left
     /// there.

@@ -38,8 +38,8 @@ pub fn one_walk()
         → IsWalkOver s fronts a x → IsWalkOver s fronts b y → (a ≡ b) × (x ≡ y) }
 {}
 
-/// A law: over the sequences of a program the greedy rule gives a list for each buffer, and where it leaves something, there
-/// is a walk.
+/// A law: over the sequences of a program the greedy rule gives a list for each buffer, and where it leaves something,
+/// there is a walk.
 pub fn some_outcome()
     ensures order { (s : Sequences) (buffer : ℕ) → IsSequences s → (order : List Comm) × IsCrossed s buffer order }
     ensures walk { (s : Sequences) (crossed : List Comm) → IsSequences s → 1 ≤ left s crossed
