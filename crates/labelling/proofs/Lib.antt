@@ -8,3 +8,4 @@ pub mod Proposals
 pub mod Ranges
 pub mod Tables
 pub mod SomeLabels
+pub mod Finest

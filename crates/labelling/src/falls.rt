@@ -1,6 +1,5 @@
 //! Where labels fall.
-ghost use Rattle.std.specs.Prelude.{◌≡◌, ◌<◌, ◌≤◌, ◌↔◌, IsSome, IfSome, [], length, slice_index_or, All, MatchOption};
-ghost use Rattle.sys_base.specs.declared.limits.TheConstants.{STEPS};
+ghost use Rattle.std.specs.Prelude.{◌≡◌, ◌<◌, ◌≤◌, ◌^◌, ◌↔◌, IsSome, IfSome, [], length, slice_index_or, All, MatchOption};
 ghost use Rattle.comm_sequence.specs.Labels.{IsConsistent};
 ghost use Rattle.comm_sequence.specs.Sequences.{message_of};
 ghost use Rattle.labelling.specs.Falls.{FallsAt, IsFall, NeverFalls, NoFallBefore};
@@ -15,7 +14,7 @@ use comm_sequence::{Cursor, Seqs};
 pub struct Fall {
     /// The index of the cell, below the number of cells.
     pub cell: u16,
-    /// The place of the later operation in the cell's list, counted from 0; it is 1 to 4,194,303.
+    /// The place of the later operation in the cell's list, counted from 0; it is at least 1.
     pub at: u32,
     /// The index of the earlier operation's message, below the number of messages.
     pub before: u16,
@@ -45,7 +44,7 @@ pub fn check(seqs: &Seqs, labels: &[u16]) -> Option<Fall>
 /// The first fall in the list of a cell.
 fn fall_in(mut cursor: Cursor<'_>, cell: u16, labels: &[u16]) -> Option<Fall>
     requires messages { All (λ comm. message_of comm < length labels.now) cursor }
-    requires few { length cursor ≤ STEPS }
+    requires few { length cursor < 2 ^ 32 }
     ensures { MatchOption result (NeverFalls cursor.entry labels.now)
         (λ fall. (fall.cell ≡ cell) × FallsAt cursor.entry labels.now fall.at fall.before fall.after
         × NoFallBefore cursor.entry labels.now fall.at) }

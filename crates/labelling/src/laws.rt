@@ -25,6 +25,13 @@ pub fn equal_where_neither_is_later()
         → ((slice_index labels a ≡ slice_index labels b) ↔ (Must lists a b × Must lists b a)) }
 {}
 
+/// A law: no consistent labels tell two messages apart that have the same proposed label.
+pub fn proposed_labels_are_finest()
+    ensures { (lists : List (List Comm)) (count : ℕ) (proposed labels : List ℕ) (a b : ℕ)
+        → a < count → b < count → IsProposal lists count proposed → IsConsistent lists labels
+        → slice_index proposed a ≡ slice_index proposed b → slice_index labels a ≡ slice_index labels b }
+{}
+
 /// A law: labels are proposed for lists whose messages are below a number, for that number of messages.
 pub fn some_proposal()
     ensures { (lists : List (List Comm)) (count : ℕ) → All (λ list. All (λ comm. message_of comm < count) list) lists

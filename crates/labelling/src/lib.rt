@@ -11,6 +11,6 @@ mod sets;
 pub use falls::{Fall, check};
 pub use laws::{
     consistent_or_fall, equal_where_neither_is_later, one_proposal, proposed_are_consistent,
-    some_proposal,
+    proposed_labels_are_finest, some_proposal,
 };
 pub use proposal::propose;
