@@ -1,5 +1,5 @@
 -- Groups fit the queues of their link where no link lacks queues.
-use Rattle.std.proofs.Common.{◌≡◌, ℕ, zero, suc, ◌+◌, ◌<◌, ◌≤◌, Bool, true, false, cond, List, [], ◌∷◌, ◌++◌, Option, None, Some, filter_map, flat_map, length, slice_get, slice_index, slice_index_or, nat_lt, sym, ◌∙◌, ap, refl, true≢false, ⊎_elim, arith}
+use Rattle.std.proofs.Common.{◌≡◌, ℕ, zero, suc, ◌+◌, ◌<◌, ◌≤◌, Bool, true, false, cond, List, [], ◌∷◌, ◌++◌, Option, None, Some, filter_map, flat_map, length, slice_get, slice_index, nat_lt, sym, ◌∙◌, ap, refl, ⊎_elim, arith}
 use Rattle.std.proofs.lemmas.Bool.{cases_eq, cases_lt, ltb-false}
 use Rattle.std.proofs.lemmas.List.{get_or_past}
 use Rattle.std.specs.List.{cons_option, range_with_len}

@@ -1,9 +1,9 @@
 -- Numbers in lists of numbers: in those that pass a test, in those below a number, and at a place.
-use Rattle.std.proofs.Common.{◌≡◌, ℕ, zero, suc, ◌+◌, ◌<◌, ◌≤◌, ◌&&◌, ◌||◌, Bool, true, false, List, [], ◌∷◌, Some, map, filter, fold, max, length, slice_get, slice_index, nat_eq, sym, ◌∙◌, ap, ap₂, refl, true≢false, ⊎_elim, arith}
-use Rattle.std.proofs.lemmas.Bool.{cases_eq, eq-eqb, eqb-true, ne_eqb, or_left, or_right, or_cases, cases_Bool}
+use Rattle.std.proofs.Common.{◌≡◌, ℕ, zero, suc, ◌+◌, ◌<◌, ◌≤◌, ◌&&◌, Bool, true, List, [], ◌∷◌, Some, map, filter, slice_get, nat_eq, sym, ap, true≢false, ⊎_elim, arith}
+use Rattle.std.proofs.lemmas.Bool.{cases_eq, eq-eqb, eqb-true, or_left, or_right, or_cases}
 use Rattle.std.proofs.lemmas.Map.Views.{any-filter_same}
 use Rattle.std.specs.List.{range_with_len}
-use Rattle.sys_base.specs.Groups.{below, greatest, is_one_of}
+use Rattle.sys_base.specs.Groups.{is_one_of}
 
 -- a number is among those that pass a test where it is among all of them and passes
 pub in_filter : (p : ℕ → Bool) (xs : List ℕ) (x : ℕ) → is_one_of (filter p xs) x ≡ (p x && is_one_of xs x)

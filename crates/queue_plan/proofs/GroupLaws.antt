@@ -1,5 +1,5 @@
 -- The laws of the groups of a link, each member by the place of its group.
-use Rattle.std.proofs.Common.{◌≡◌, ℕ, zero, suc, ◌+◌, ◌<◌, ◌≤◌, ◌&&◌, ◌||◌, Bool, true, false, List, [], ◌∷◌, Option, None, Some, map, filter, flat_map, filter_map, length, get_or, slice_get, slice_index, slice_index_or, nat_eq, nat_lt, All, sym, ◌∙◌, ap, subst, refl, true≢false, ⊎_elim, arith}
+use Rattle.std.proofs.Common.{◌≡◌, ℕ, ◌+◌, ◌<◌, ◌≤◌, ◌&&◌, ◌||◌, Bool, true, List, [], ◌∷◌, Option, None, Some, map, length, get_or, slice_get, slice_index, slice_index_or, nat_eq, nat_lt, sym, ◌∙◌, ap, subst, refl, true≢false, arith}
 use Rattle.std.proofs.lemmas.Bool.{and_from, and_parts, eq-eqb, eqb-true, lt-ltb, ltb-true}
 use Rattle.std.proofs.lemmas.List.{length-map}
 use Rattle.std.proofs.lemmas.List.Elements.{filter_passes}
@@ -63,6 +63,19 @@ module _ (routes : List (List ℕ)) (labels lengths : List ℕ) (link : ℕ) whe
       subst (λ o. IsSomeAnd o (λ g. g.0 ≡ slice_index labels message))
       (sym (slice_get-map group numbers place ∙ ap (option_map group) (placed place message h).0)) refl
 
+  -- the label of a user is one of those of the groups
+  pub own_label : (message : ℕ) → is_one_of members message ≡ true → is_one_of numbers (slice_index labels message) ≡ true
+  own_label message mine =
+      let label = slice_index labels message in
+      let there : is_one_of (map (slice_index labels) members) label ≡ true = in_map (slice_index labels) members message mine in
+      let at = found (map (slice_index labels) members) label there in
+      let low : label ≤ greatest (map (slice_index labels) members) =
+      subst (λ n. n ≤ greatest (map (slice_index labels) members)) (get_or_from_slice_get (map (slice_index labels) members) at.0 label 0 at.1)
+      (label_below (map (slice_index labels) members) at.0) in
+      in_filter (is_one_of (map (slice_index labels) members)) (below (1 + greatest (map (slice_index labels) members))) label
+      ∙ and_from (is_one_of (map (slice_index labels) members) label) (is_one_of (below (1 + greatest (map (slice_index labels) members))) label) there
+      (in_range 0 (1 + greatest (map (slice_index labels) members)) label (omega arith) (omega arith))
+
   -- each user is a member of a group
   pub grouped_law : (message : ℕ) → IsUser routes lengths link message
       → (place : ℕ) × HasMember (groups routes labels lengths link) place message
@@ -74,15 +87,7 @@ module _ (routes : List (List ℕ)) (labels lengths : List ℕ) (link : ℕ) whe
       let mine : is_one_of members message ≡ true =
       in_filter test (below (length routes)) message
       ∙ and_from (test message) (is_one_of (below (length routes)) message) passes (in_range 0 (length routes) message (omega arith) (omega (arith, user.known))) in
-      let there : is_one_of (map (slice_index labels) members) label ≡ true = in_map (slice_index labels) members message mine in
-      let at = found (map (slice_index labels) members) label there in
-      let low : label ≤ greatest (map (slice_index labels) members) =
-      subst (λ n. n ≤ greatest (map (slice_index labels) members)) (get_or_from_slice_get (map (slice_index labels) members) at.0 label 0 at.1)
-      (label_below (map (slice_index labels) members) at.0) in
-      let placed = found numbers label
-      (in_filter (is_one_of (map (slice_index labels) members)) (below (1 + greatest (map (slice_index labels) members))) label
-      ∙ and_from (is_one_of (map (slice_index labels) members) label) (is_one_of (below (1 + greatest (map (slice_index labels) members))) label) there
-      (in_range 0 (1 + greatest (map (slice_index labels) members)) label (omega arith) (omega arith))) in (
+      let placed = found numbers label (own_label message mine) in (
         placed.0,
         subst (λ o. IsSomeAnd o (λ g. is_one_of g.1 message ≡ true))
             (sym (slice_get-map group numbers placed.0 ∙ ap (option_map group) placed.1))

@@ -78,7 +78,7 @@ labels_had has messages (l ∷ ls) h =
     (labels_had has messages ls h)
 
 -- the greatest of numbers is no less than where it starts
-starts_below : (a : ℕ) (xs : List ℕ) → a ≤ fold max a xs
+pub starts_below : (a : ℕ) (xs : List ℕ) → a ≤ fold max a xs
 starts_below a [] = omega arith
 starts_below a (x ∷ xs) = le_trans (le-max_left a x) (starts_below (max a x) xs)
 

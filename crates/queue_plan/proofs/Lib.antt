@@ -14,3 +14,4 @@ pub mod SoundGroups
 pub mod Stable
 pub mod UserSteps
 pub mod Whole
+pub mod Finer

@@ -1,7 +1,7 @@
-ghost use Rattle.std.specs.Prelude.{◌≡◌, ℕ, ◌*◌, ◌<◌, ◌≤◌, List, [], length, slice_get, slice_index, sum_by, Some, IsSomeAnd};
+ghost use Rattle.std.specs.Prelude.{◌≡◌, ℕ, ◌*◌, ◌<◌, ◌≤◌, ◌↔◌, List, [], length, map, slice_get, slice_index, sum_by, Some, IsSomeAnd};
 ghost use Rattle.sys_base.specs.Grid.{cell_count};
 ghost use Rattle.cell_types.specs.Code.{ProgramCode};
-ghost use Rattle.cell_types.specs.Groups.{groups, group_count, lengths_of, routes_of};
+ghost use Rattle.cell_types.specs.Groups.{greatest, groups, group_count, lengths_of, need, routes_of};
 ghost use Rattle.queue_plan.specs.Grouping.{all_groups, groups_at};
 ghost use Rattle.queue_plan.specs.Lacks.{lacks};
 ghost use Rattle.queue_plan.specs.Members.{HasMember, IsUser};
@@ -45,4 +45,20 @@ pub fn groups_fit()
     ensures { (links : List (List (ℕ × List ℕ))) (queues : List ℕ) (link place : ℕ) (group : ℕ × List ℕ)
         → lacks links queues ≡ [] → slice_get (groups_at links link) place ≡ Some group
         → length group.1 ≤ slice_index queues link }
+{}
+
+/// A law: no link lacks queues exactly where each has at least as many as its largest group has members.
+pub fn links_fit_by_need()
+    ensures { (links : List (List (ℕ × List ℕ))) (queues : List ℕ)
+        → ((lacks links queues ≡ []) ↔ ((link : ℕ) → link < length links
+        → greatest (map (λ group. length group.1) (groups_at links link)) ≤ slice_index queues link)) }
+{}
+
+/// A law: where labels that are equal for two messages are equal for them among other labels too, each link needs at
+/// most as many queues for these labels as for the others.
+pub fn finer_labels_need_no_more()
+    ensures { (routes : List (List ℕ)) (fine coarse lengths : List ℕ) (link : ℕ)
+        → ((a b : ℕ) → a < length routes → b < length routes → slice_index fine a ≡ slice_index fine b
+        → slice_index coarse a ≡ slice_index coarse b)
+        → need routes fine lengths link ≤ need routes coarse lengths link }
 {}

@@ -12,4 +12,7 @@ mod users;
 pub use grouping::group;
 pub use groups::Groups;
 pub use lack::Lack;
-pub use laws::{groups_by_link, groups_fit, groups_rise, users_are_grouped};
+pub use laws::{
+    finer_labels_need_no_more, groups_by_link, groups_fit, groups_rise, links_fit_by_need,
+    users_are_grouped,
+};

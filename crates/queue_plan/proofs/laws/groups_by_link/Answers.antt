@@ -1,7 +1,7 @@
 use Rattle.std.proofs.Common.{◌*◌, [], length, arith}
 use Rattle.std.proofs.lemmas.List.FromFn.{get_or-map-range_with_len}
 use Rattle.sys_base.specs.Grid.{cell_count}
-use Rattle.cell_types.specs.Groups.{groups, groups_on, lengths_of, link_ids, routes_of}
+use Rattle.cell_types.specs.Groups.{groups, groups_on, link_ids, routes_of}
 use Rattle.queue_plan.proofs.Sizes.{sum_by-map}
 use Rattle.queue_plan.proofs.laws.groups_by_link.Goals as goal
 
