@@ -1,5 +1,6 @@
 pub mod Comms
 pub mod Depths
+pub mod EachCell
 pub mod Found
 pub mod Keeps
 pub mod Patch

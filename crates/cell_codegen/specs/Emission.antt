@@ -1,4 +1,5 @@
--- The code that is emitted for the statements of a cell. Targets are addresses, so code is a function of the address where it stands.
+-- The code that is emitted for the statements of a cell. Targets are addresses, so code is a function of the address
+-- where it stands.
 use Rattle.std.specs.Prelude.{ℕ, ◌+◌, pos, List, [], ◌∷◌, ◌++◌, length}
 use Rattle.cell_code.specs.declared.instruction.Instr.{Instr}
 use Rattle.cell_code.specs.declared.instruction.Instr.TheVariants as I
@@ -11,7 +12,8 @@ expression_code line (Variable word) = I.Load word ∷ []
 expression_code line (Counter counter) = I.Counter counter ∷ []
 expression_code line (Element base len index) = expression_code line index ++ I.LoadAt base len line ∷ []
 expression_code line (Negated operand) = expression_code line operand ++ I.Neg line ∷ []
-expression_code line (Applied op left right) = expression_code line left ++ (expression_code line right ++ I.Bin op line ∷ [])
+expression_code line (Applied op left right) = expression_code line left ++
+    (expression_code line right ++ I.Bin op line ∷ [])
 
 -- the code of a loop at an address, around the code of its body, which stands at the next address
 abbrev pub loop_code : ℕ → ℕ → ℕ → List Instr → List Instr

@@ -26,13 +26,16 @@ abbrev mutual
   StraightBlock End = ⊤
   StraightBlock (Then line action rest) = StraightAction action × StraightBlock rest
 
--- The code follows the statements of a cell of a program, for this input and these streams: alone it comes to `halt` within the cell's
--- cost, in exactly that many steps where no `if` stands in it, and leaves what the cell alone leaves by its source.
-pub record Follows (code : List Instr) (program : ProgramCode) (cell : ℕ) (input : List ℤ) (streams : Streams) : Type 0 where
+-- The code follows the statements of a cell of a program, for this input and these streams: alone it comes to `halt`
+-- within the cell's cost, in exactly that many steps where no `if` stands in it, and leaves what the cell alone leaves
+-- by its source.
+pub record Follows (code : List Instr) (program : ProgramCode) (cell : ℕ) (input : List ℤ)
+    (streams : Streams) : Type 0 where
   pub steps : ℕ
   pub within : steps ≤ block_cost (code_of program cell).body
   pub exact : StraightBlock (code_of program cell).body → steps ≡ block_cost (code_of program cell).body
   pub at : ℕ
-  pub ends : after_steps code cell input streams steps (opening_alone (code_of program cell).words (code_of program cell).counters)
+  pub ends : after_steps code cell input streams steps
+      (opening_alone (code_of program cell).words (code_of program cell).counters)
       ≡ Some (place at [] (solo program cell input streams))
   pub halts : slice_get code at ≡ Some I.Halt

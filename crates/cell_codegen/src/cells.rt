@@ -25,7 +25,8 @@ pub fn emit_cell(alloc: Global, program: &Program, cell: u16) -> Result<Vec<Inst
     requires cell { cell < cell_count program.now.grid }
     requires room { length (body_code (code_of (plain program.now) cell).body) < 2 ^ 32 }
     ensures code { IfOk result (λ code. code.items ≡ body_code (code_of (plain program.now) cell).body) }
-    ensures follows { IfOk result (λ code. (input : List ℤ) (streams : Streams) → Follows code.items (plain program.now) cell input streams) }
+    ensures follows { IfOk result (λ code. (input : List ℤ) (streams : Streams) → Follows code.items
+        (plain program.now) cell input streams) }
     ensures communicates { AlikeBlock (code_of (plain program.now) cell).body → (input : List ℤ) (streams : Streams)
         → (solo (plain program.now) cell input streams).made ≡ communications (plain program.now) cell }
     ensures sound { IfOk result (λ code. IsSoundCode (code_of (plain program.now) cell) code.items) }

@@ -38,7 +38,8 @@ fn emit_block(code: &mut Vec<Instr>, body: &[TypedStmt]) -> Result<(), Memory>
 fn emit_action(code: &mut Vec<Instr>, line: u32, act: &TypedAct) -> Result<(), Memory>
     requires small { SmallAction (action_of act.now) }
     requires room { HasRoom code.old.items line (action_of act.now) }
-    ensures { OnOk result (code.new.items ≡ code.old.items ++ action_code (length code.old.items) line (action_of act.now)) }
+    ensures { OnOk result (code.new.items ≡ code.old.items ++ action_code (length code.old.items) line
+        (action_of act.now)) }
 {
     match act {
         TypedAct::Set { word, value } => {

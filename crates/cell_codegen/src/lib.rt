@@ -7,4 +7,4 @@ mod emission;
 mod laws;
 
 pub use cells::emit_cell;
-pub use laws::code_is_sized;
+pub use laws::{code_ends_alone, code_is_shaped, code_is_sized};
