@@ -13,7 +13,8 @@ use Rattle.array_model.specs.Orders.{IsBufferedOrder, IsConsistent}
 use Rattle.array_model.specs.States.{cells, cell_of, code_of}
 
 -- From one state the cell alone comes to `halt` in another state, in at most a number of steps.
-pub record Ends (code : List Instr) (cell : ℕ) (input : List ℤ) (streams : Streams) (cost : ℕ) (start end : Alone) : Type 0 where
+pub record Ends (code : List Instr) (cell : ℕ) (input : List ℤ) (streams : Streams) (cost : ℕ)
+    (start end : Alone) : Type 0 where
   pub steps : ℕ
   pub within : steps ≤ cost
   pub ends : after_steps code cell input streams steps start ≡ Some end

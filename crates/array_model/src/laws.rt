@@ -26,7 +26,8 @@ pub fn regular_images_have_one_meaning()
 /// agree, and what each cell has emitted is the beginning of what it emits alone under them; where the run is
 /// finished it is the whole. So what is emitted depends neither on the schedule nor on the capacity.
 pub fn every_run_keeps_the_meaning()
-    ensures { (image : Image) (buffer : ℕ) (inputs : Inputs) (streams : Streams) (cap : ℕ) (run : List Actor) (last : ArrayState) →
+    ensures { (image : Image) (buffer : ℕ) (inputs : Inputs) (streams : Streams) (cap : ℕ) (run : List Actor)
+        (last : ArrayState) →
         IsRegular image buffer → IsCounted image inputs → Agrees image inputs streams → max 1 buffer ≤ cap →
         IsRun image inputs cap run last → KeepsMeaning image inputs streams last }
 {}

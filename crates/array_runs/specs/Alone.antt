@@ -56,11 +56,13 @@ module _ {X W : Type 0} (mc : Machine X W) (v : ℕ → List W) (start : ℕ →
 
 -- By itself, whatever the streams, each cell comes to its halt within its cost, and the writes and reads that it does
 -- until then are always this list of it.
-pub record RunsAlike {X W : Type 0} (p : Frame) (mc : Machine X W) (start : ℕ → X) (lists : ℕ → List Action) (cost : ℕ → ℕ) : Type 0 where
+pub record RunsAlike {X W : Type 0} (p : Frame) (mc : Machine X W) (start : ℕ → X) (lists : ℕ → List Action)
+    (cost : ℕ → ℕ) : Type 0 where
   pub halts : (v : ℕ → List W) (c : ℕ) → c < p.cells → action_alone mc v start c (cost c) ≡ Halt
   pub alike : (v : ℕ → List W) (c : ℕ) → c < p.cells → events (actions_alone mc v start c (cost c)) ≡ lists c
 
 -- A regular array of machines: its cells run alike, and with their lists the array is regular for the buffer.
-pub record IsRegularArray {X W : Type 0} (p : Frame) (mc : Machine X W) (start : ℕ → X) (lists : ℕ → List Action) (cost : ℕ → ℕ) (buffer : ℕ) : Type 0 where
+pub record IsRegularArray {X W : Type 0} (p : Frame) (mc : Machine X W) (start : ℕ → X) (lists : ℕ → List Action)
+    (cost : ℕ → ℕ) (buffer : ℕ) : Type 0 where
   pub cells : RunsAlike p mc start lists cost
   pub regular : IsRegular p lists buffer

@@ -34,7 +34,8 @@ pub record IsAlone {X W : Type 0} (mc : Machine X W) (start : ℕ → X) (v : �
 -- Under these streams: all that was written to a message is the beginning of its stream, and the whole of it where
 -- all cells halt; each cell is in one of its states by itself; and what it has put out is the beginning of what it
 -- has put out at its halt by itself, and the whole of it where all cells halt.
-pub record KeepsMeaning {X W O : Type 0} (p : Frame) (mc : Machine X W) (start : ℕ → X) (output : X → List O) (v : ℕ → List W) (a : Array X W) : Type 0 where
+pub record KeepsMeaning {X W O : Type 0} (p : Frame) (mc : Machine X W) (start : ℕ → X) (output : X → List O)
+    (v : ℕ → List W) (a : Array X W) : Type 0 where
   pub begins : (m : ℕ) → m < p.messages → IsPrefix (a.history m) (v m)
   pub whole : IsArrayFinished p mc a → (m : ℕ) → m < p.messages → a.history m ≡ v m
   pub is_alone : (c : ℕ) → c < p.cells → IsAlone mc start v c (a.cell c)

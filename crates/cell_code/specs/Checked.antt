@@ -88,7 +88,8 @@ counts_fit takes emits p _ = nat_le (times Takes p.made) takes && nat_le (times 
 abbrev pub keeps : List Instr → ℕ → ℕ → ℕ → Point → Bool
 keeps code takes emits zero p = false
 keeps code takes emits (suc n) p =
-    option_map_or (λ instr. counts_fit takes emits p instr && list_all (λ q. keeps code takes emits n q) (way_points instr p))
+    option_map_or (λ instr. counts_fit takes emits p instr && list_all (λ q. keeps code takes emits n q)
+    (way_points instr p))
     (slice_get code p.at) false
 
 -- whether an image passes all these tests, with a table of depths and ways of at most so many points
