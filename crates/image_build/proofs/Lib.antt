@@ -1,0 +1,5 @@
+pub mod EachCell
+pub mod EachGroup
+pub mod EachLink
+pub mod EachMessage
+pub mod Grouped
