@@ -1,0 +1,9 @@
+pub mod CellLines
+pub mod Enumerated
+pub mod Examples
+pub mod Groups
+pub mod Instructions
+pub mod LineWords
+pub mod Numbers
+pub mod Parts
+pub mod Whole

@@ -1,0 +1,7 @@
+use Rattle.std.proofs.Common.{◌≡◌, ◌++◌, take}
+use Rattle.std.specs.List.{flat_map, enumerate_from}
+use Rattle.object_io.specs.Objects.{message_line}
+use Rattle.object_io.proofs.write_image.write_messages.Given as goal
+
+abbrev pub invariant-loop-index : goal.invariant-loop-index
+invariant-loop-index l = l.out.items ≡ l.fn.out.items ++ flat_map message_line (enumerate_from 0 (take l.index l.messages))
