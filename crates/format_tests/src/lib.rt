@@ -1,4 +1,5 @@
-//! Tests of schedules, inputs and results as text, as tables. They stand apart, since a crate with tests is proved twice.
+//! Tests of schedules, inputs and results as text, as tables. They stand apart, since a crate with tests is proved
+//! twice.
 #![tactic(auto)]
 
 #[cfg(test)]

@@ -53,7 +53,8 @@ pub record IsFirstPlace (actors : List Actor) (place : ℕ) (actor : Actor) : Ty
   pub first : (k : ℕ) → k < place → slice_get actors k ≡ Some actor → ⊥
 
 -- A recorded schedule takes its next entry, which stands at this place of the list.
-pub record TakesEntry (before : Recording) (enabled : List Actor) (place : ℕ) (entry : Actor) (after : Recording) : Type 0 where
+pub record TakesEntry (before : Recording) (enabled : List Actor) (place : ℕ) (entry : Actor)
+    (after : Recording) : Type 0 where
   pub next : before.left ≡ entry ∷ after.left
   pub place_of_entry : IsFirstPlace enabled place entry
   pub one_more : after.taken ≡ before.taken + 1

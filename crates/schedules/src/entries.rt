@@ -7,8 +7,8 @@ use crate::line::{entry_of, place_of};
 use std::alloc::Global;
 use sys_base::{Actor, Memory};
 
-/// The entries of a schedule's text, or its first malformed line (`specs/Entries.antt`). A first line that begins with `{` is
-/// passed over.
+/// The entries of a schedule's text, or its first malformed line (`specs/Entries.antt`). A first line that begins with
+/// `{` is passed over.
 pub fn read_schedule(alloc: Global, bytes: &[u8]) -> Result<Vec<Actor>, ScheduleError>
     requires { length bytes.now < 2 ^ 32 }
     ensures entries { IfOk result (λ entries. HasEntries bytes.now entries.items) }
@@ -52,8 +52,8 @@ fn split_line(bytes: &[u8]) -> (&[u8], &[u8])
     }
 }
 
-/// The text of a schedule: each entry on a line of its own. It reads back as these entries, also behind a line that begins
-/// with `{`.
+/// The text of a schedule: each entry on a line of its own. It reads back as these entries, also behind a line that
+/// begins with `{`.
 pub fn write_schedule(alloc: Global, entries: &[Actor]) -> Result<Vec<u8>, Memory>
     ensures text { IfOk result (λ text. text.items ≡ schedule_text entries.now) }
     ensures read_back { IfOk result (λ text. HasEntries text.items entries.now) }

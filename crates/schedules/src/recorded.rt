@@ -18,8 +18,8 @@ pub enum Standing {
     NotEnabled { entry: u32 },
 }
 
-/// The schedule that takes its entries in order. It stops where no entry is left, and where the next entry is not enabled.
-/// Contracts see it as a `Recording` (`specs/Picks.antt`).
+/// The schedule that takes its entries in order. It stops where no entry is left, and where the next entry is not
+/// enabled. Contracts see it as a `Recording` (`specs/Picks.antt`).
 #[derive(Debug, Drop)]
 pub struct Recorded {
     entries: Vec<Actor>,
@@ -34,7 +34,8 @@ impl Model for Recorded {
 
     ghost Value = { Recording };
 
-    ghost view = { λ r. record { left = drop r.next r.entries.items; taken = r.next; standing = r.standing; stops = r.stops } };
+    ghost view = { λ r.
+        record { left = drop r.next r.entries.items; taken = r.next; standing = r.standing; stops = r.stops } };
 
     ghost invariant = { λ r. (r.next ≤ vec_len r.entries) × (vec_len r.entries < 2 ^ 32) };
 }

@@ -5,8 +5,8 @@ use crate::chooser::{Chooser, Pick};
 use std::marker::Model;
 use sys_base::Actor;
 
-/// The schedule that goes round: it takes the first enabled actor after the one that it took last, or else the first of all.
-/// It never stops. Contracts see it as the actor that it took last.
+/// The schedule that goes round: it takes the first enabled actor after the one that it took last, or else the first
+/// of all. It never stops. Contracts see it as the actor that it took last.
 #[derive(Debug, Drop)]
 pub struct Round {
     last: Option<Actor>,

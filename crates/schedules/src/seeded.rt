@@ -9,8 +9,8 @@ use rand_pcg::Lcg64Xsh32;
 use std::marker::Model;
 use sys_base::Actor;
 
-/// The schedule that draws each place: the next 32-bit word of a generator, modulo the number of enabled actors. It never
-/// stops. Contracts see it as its generator.
+/// The schedule that draws each place: the next 32-bit word of a generator, modulo the number of enabled actors. It
+/// never stops. Contracts see it as its generator.
 #[derive(Debug, Drop)]
 pub struct Seeded {
     generator: Lcg64Xsh32,

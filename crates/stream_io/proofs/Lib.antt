@@ -1,3 +1,4 @@
 pub mod Lists
 pub mod OneFile
 pub mod OneLine
+pub mod KeyParts

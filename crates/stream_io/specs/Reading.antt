@@ -69,7 +69,8 @@ AllGood g (m ∷ ms) = IsGood g m.0 m.1 × AllGood g ms
 
 -- The first member that is not good breaks this rule.
 abbrev pub FirstBroken : Extent → List (List ℕ × Data) → InputError → Type 0
-FirstBroken g members e = (before : List (List ℕ × Data)) × (key : List ℕ) × (value : Data) × (after : List (List ℕ × Data))
+FirstBroken g members e = (before : List (List ℕ × Data)) × (key : List ℕ) × (value : Data) ×
+    (after : List (List ℕ × Data))
     × (members ≡ before ++ (key, value) ∷ after) × AllGood g before × Breaks g key value e
 
 -- ---- the lists of the cells
@@ -111,9 +112,11 @@ pub record IsFirstCount (takes : List ℕ) (lists : List (List ℤ)) (cell need 
   pub differ : has ≡ need → ⊥
   pub before : (k : ℕ) → k < cell → length (slice_index_or lists k []) ≡ slice_index takes k
 
--- The file has these inputs: each member is good, each cell has its list, and the lists have the lengths that the cells take.
+-- The file has these inputs: each member is good, each cell has its list, and the lists have the lengths that the
+-- cells take.
 pub record HasInputs (bytes : List ℕ) (g : Extent) (takes : List ℕ) (inputs : List (List ℤ)) : Type 0 where
-  pub reading : (value : Data) × (members : List (List ℕ × Data)) × Means bytes value × HasMembers value members × AllGood g members
+  pub reading : (value : Data) × (members : List (List ℕ × Data)) × Means bytes value × HasMembers value members
+      × AllGood g members
       × (inputs ≡ lists_of g value)
   pub counts : (cell : ℕ) → cell < cell_count g → length (slice_index_or inputs cell []) ≡ slice_index takes cell
 
@@ -129,6 +132,7 @@ Refuses bytes g takes NotObject = (value : Data) × Means bytes value × (as_obj
 Refuses bytes g takes (UnknownCell k) = BreaksFirst bytes g (UnknownCell k)
 Refuses bytes g takes (NotList k) = BreaksFirst bytes g (NotList k)
 Refuses bytes g takes (NotInteger k n) = BreaksFirst bytes g (NotInteger k n)
-Refuses bytes g takes (Count cell need has) = (value : Data) × (members : List (List ℕ × Data)) × Means bytes value × HasMembers value members
+Refuses bytes g takes (Count cell need has) = (value : Data) × (members : List (List ℕ × Data)) × Means bytes value
+    × HasMembers value members
     × AllGood g members × IsFirstCount takes (lists_of g value) cell need has
 Refuses bytes g takes Memory = Unit {0}

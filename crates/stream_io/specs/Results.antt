@@ -53,7 +53,8 @@ outputs_data g outputs emits = object (outputs_below g outputs emits (cell_count
 
 -- the peaks of links, each at the name of its link
 abbrev pub peaks_among : Extent → List (ℕ × ℕ) → Members
-peaks_among g peaks = fold (λ ms peak. put (link_text (link_name g.cols peak.0)) (number (unsigned peak.1)) ms) no_members peaks
+peaks_among g peaks = fold (λ ms peak. put (link_text (link_name g.cols peak.0))
+    (number (unsigned peak.1)) ms) no_members peaks
 
 abbrev pub peaks_data : Extent → List (ℕ × ℕ) → Data
 peaks_data g peaks = object (peaks_among g peaks)

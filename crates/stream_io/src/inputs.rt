@@ -2,6 +2,7 @@ ghost use Rattle.std.specs.Prelude.{◌≡◌, ◌<◌, ◌≤◌, ℕ, [], Some
 ghost use Rattle.std.specs.List.{filter_map};
 ghost use Rattle.serde_json.specs.View.{view};
 ghost use Rattle.sys_base.specs.Grid.{cell_count};
+ghost use Rattle.sys_base.specs.declared.limits.TheConstants.{CELLS};
 ghost use Rattle.stream_io.specs.Checking.{BreaksCount, BreaksReading};
 ghost use Rattle.stream_io.specs.Reading.{HasInputs, Means, Refuses, cell_list, integer_of, integers_at, lists_of};
 
@@ -12,8 +13,8 @@ use serde_json::Value;
 use std::alloc::{AllocError, Global};
 use sys_base::{Grid, Inputs, Items, Memory};
 
-/// The inputs of the cells, from the bytes of an input file. `takes` is how many words each cell takes. Each error comes exactly
-/// where its rule is the first that the file breaks (`specs/Reading.antt`).
+/// The inputs of the cells, from the bytes of an input file. `takes` is how many words each cell takes. Each error
+/// comes exactly where its rule is the first that the file breaks (`specs/Reading.antt`).
 pub fn read_inputs(
     alloc: Global,
     bytes: &[u8],
@@ -50,7 +51,7 @@ fn read_value(alloc: Global, bytes: &[u8]) -> Result<Value, InputError>
 fn lists_of(alloc: Global, value: &Value, grid: &Grid) -> Result<Inputs, Memory>
     ensures lists { IfOk result (λ inputs. inputs.cells ≡ lists_of grid.now (view value.now)) }
     ensures len { IfOk result (λ inputs. length inputs.cells ≡ cell_count grid.now) }
-    ensures few { cell_count grid.now ≤ 256 }
+    ensures few { cell_count grid.now ≤ CELLS }
 {
     let mut cells = Items::new(alloc);
     for cell in 0..grid.cells() {
@@ -91,7 +92,7 @@ fn integers_among(alloc: Global, list: &[Value]) -> Result<Vec<i64>, AllocError>
 /// Checks that each cell has as many words as it takes.
 fn check_counts(inputs: &Inputs, takes: &[u32]) -> Result<(), InputError>
     requires same { length takes.now ≡ length inputs.now.cells }
-    requires few { length takes.now ≤ 256 }
+    requires few { length takes.now ≤ CELLS }
     ensures ok { OnOk result ((cell : ℕ) → cell < length takes.now
         → length (slice_index_or inputs.now.cells cell []) ≡ slice_index takes.now cell) }
     ensures err { IfErr result (BreaksCount takes.now inputs.now.cells) }

@@ -9,7 +9,8 @@ ghost use Rattle.sys_base.specs.declared.word.Word.{Word};
 
 /// A law: any bytes have just one list of inputs or break just one rule first, and never both.
 pub fn one_input()
-    ensures some { (bytes : List ℕ) (g : Extent) (takes : List ℕ) → ((inputs : List (List ℤ)) × HasInputs bytes g takes inputs)
+    ensures some { (bytes : List ℕ) (g : Extent) (takes : List ℕ) →
+        ((inputs : List (List ℤ)) × HasInputs bytes g takes inputs)
         ⊎ ((error : InputError) × (error ≢ Memory) × Refuses bytes g takes error) }
     ensures inputs { (bytes : List ℕ) (g : Extent) (takes : List ℕ) (is js : List (List ℤ)) → HasInputs bytes g takes is
         → HasInputs bytes g takes js → is ≡ js }

@@ -1,4 +1,4 @@
-ghost use Rattle.std.specs.Prelude.{◌≡◌, ◌<◌, ◌*◌, All, IfOk, OnOk, codes, false, length};
+ghost use Rattle.std.specs.Prelude.{◌≡◌, ◌<◌, ◌*◌, [], All, IfOk, OnOk, codes, false, length, slice_index_or};
 ghost use Rattle.serde_json.specs.Data.{boolean, number, unsigned};
 ghost use Rattle.serde_json.specs.View.{view, members_view};
 ghost use Rattle.serde_json.specs.Written.{has_float};
@@ -10,7 +10,7 @@ use crate::report::Report;
 use crate::words::words_value;
 use serde_json::{Map, Value, put};
 use std::alloc::Global;
-use sys_base::{Grid, Memory, Outputs};
+use sys_base::{Grid, Memory, Outputs, Word};
 
 /// The result line of a run (`docs/formats.md`, "The result line").
 pub fn result_text(alloc: Global, grid: &Grid, report: &Report) -> Result<Vec<u8>, Memory>
@@ -112,7 +112,7 @@ fn outputs_value(
     for cell in 0..grid.cells() {
         if emits[usize::from(cell)] != 0 {
             let key = key_of(alloc, grid, cell)?;
-            let words = outputs.cells.as_slice()[usize::from(cell)].as_slice();
+            let words = words_of(outputs, cell);
             put(
                 &mut members,
                 alloc,
@@ -122,6 +122,16 @@ fn outputs_value(
         }
     }
     Ok(Value::Object(members))
+}
+
+/// The words that a cell has emitted.
+fn words_of(outputs: &Outputs, cell: u16) -> &[Word]
+    ensures { result.now ≡ slice_index_or outputs.now.cells cell [] }
+{
+    match outputs.cells.get(usize::from(cell)) {
+        Some(words) => words.as_slice(),
+        None => &[],
+    }
 }
 
 /// The peak of each link, at its name.
