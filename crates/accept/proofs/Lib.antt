@@ -1,3 +1,4 @@
+pub mod Accepted
 pub mod OneRefusal
 pub mod Refused
 pub mod ToldFault
@@ -7,6 +8,8 @@ pub mod Judged
 pub mod Words
 pub mod Moves
 pub mod FirstLack
+pub mod Imaged
 pub mod Unlabelled
 pub mod FallsInside
 pub mod SomeRefusal
+pub mod OneBuild

@@ -45,9 +45,9 @@ moves_all p i past =
 
 -- the words of a message move at most so often over a short route
 pub few_moves : (p : ProgramCode) (i words : ℕ) (message : Message) → HasShortRoutes p → i < length p.messages
-    → message ≡ get_or p.messages i message → words < 4294967296 → words * (length message.route - 1) ≤ 4393751542785
+    → message ≡ get_or p.messages i message → words < 4294967296 → words * (length message.route - 1) ≤ 1095216660225
 few_moves p i words message short within at fits =
     let same = ap length (route_at p i message within at) in
-    let most : words * (length message.route - 1) ≤ 4294967295 * 1023 =
-    mul-le words (length message.route - 1) 4294967295 1023 (omega arith) (omega (arith, short i, same)) in
+    let most : words * (length message.route - 1) ≤ 4294967295 * 255 =
+    mul-le words (length message.route - 1) 4294967295 255 (omega arith) (omega (arith, short i, same)) in
     omega (arith, most)

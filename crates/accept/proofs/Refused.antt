@@ -1,6 +1,6 @@
 -- The first refusal of a text, and what there is of a text that has none.
 use Rattle.std.proofs.Common.{ℕ, ◌≡◌, ◌<◌, ◌≤◌, ◌⊎◌, List, [], Some, inl, inr, length, slice_get, refl, sym, ap, subst, ◌∙◌, Result, Ok, Err, arith}
-use Rattle.std.specs.Prelude.{IfOk, IfErr}
+use Rattle.std.specs.Prelude.{IfErr}
 use Rattle.std.specs.Result.{IsErrAnd}
 use Rattle.sys_base.specs.declared.limits.TheConstants.{SOURCE_BYTES}
 use Rattle.cell_lexer.specs.declared.error.LexError.{LexError}
@@ -19,6 +19,9 @@ use Rattle.cell_types.specs.Code.{ProgramCode}
 use Rattle.cell_types.specs.Faults.{faults}
 use Rattle.cell_types.specs.Resolved.{program_of}
 use Rattle.cell_types.specs.Typed.{Contents, plain}
+use Rattle.cell_code.specs.declared.image.Image.{Image}
+use Rattle.comm_sequence.specs.declared.comm.Comm.{Comm}
+use Rattle.program_image.specs.ImageOf.{image_of}
 use Rattle.refusals.specs.declared.refusal.Refusal.{Refusal}
 use Rattle.refusals.specs.declared.refusal.Refusal.TheVariants as R
 use Rattle.accept.specs.declared.building.AcceptError.{AcceptError}
@@ -137,32 +140,30 @@ module _ (text : List ℕ) (short : length text ≤ SOURCE_BYTES) where
           (not_long, (never_misspelt, (never_over, (not_misplaced, (not_faulty, passes_of program_trials passes)))))
 
       -- what is made of its program is made of the text
-      is_built : (b : Built) → plain b.program ≡ program_of s → PassesAll program_trials (plain b.program)
-          → IsJudged (plain b.program) b.order b.labels.items b.bound → IsBuilt text b
-      is_built b same passes judged =
+      pub is_built : (program : Contents) (b : Built) (order : List Comm) (labels : List ℕ) (steps : ℕ) → plain program ≡ program_of s
+          → PassesAll program_trials (plain program) → IsJudged (plain program) order labels steps
+          → b.program ≡ program → b.order ≡ order → b.image ≡ image_of (plain program) labels → IsBuilt text b
+      is_built program b order labels steps same passes judged keeps orders images =
+          let at : plain b.program ≡ plain program = ap plain keeps in
+          let bounded : steps ≡ b.image.bound = judged.bound_is ∙ sym (ap (λ (i : Image). i.bound) images) in
+          let counted : IsJudged (plain program) order labels b.image.bound =
+          subst (λ n. IsJudged (plain program) order labels n) bounded judged in
+          let ordered : IsJudged (plain program) b.order labels b.image.bound =
+          subst (λ o. IsJudged (plain program) o labels b.image.bound) (sym orders) counted in
           record {
             accepts = accepts_of (subst (PassesAll program_trials) same passes);
             source = s;
             is = is;
-            program_is = same;
-            judged = judged;
+            program_is = at ∙ same;
+            labels = labels;
+            judged = subst (λ p. IsJudged p b.order labels b.image.bound) (sym at) ordered;
+            image_is = images ∙ ap (λ p. image_of p labels) (sym at);
           }
 
-      -- what is answered for its program is answered for the text
-      pub answer_built : (program : Contents) (r : Result Built AcceptError) → plain program ≡ program_of s
-          → IfOk r (λ b. b.program ≡ program) → IfOk r (λ b. PassesAll program_trials (plain program))
-          → IfOk r (λ b. IsJudged (plain program) b.order b.labels.items b.bound) → IfOk r (IsBuilt text)
-      answer_built program (Ok b) same whole passes judged =
-          is_built b (ap plain whole ∙ same) (subst (λ p. PassesAll program_trials (plain p)) (sym whole) passes)
-          (subst (λ p. IsJudged (plain p) b.order b.labels.items b.bound) (sym whole) judged)
-      answer_built program (Err e) same whole passes judged = tt
-
-      -- or the first refusal
-      pub answer_refused : (program : Contents) (r : Result Built AcceptError) → plain program ≡ program_of s
-          → IfErr r (IsFound (IsFirstOf program_trials) (plain program)) → IfErr r (IsRefused text)
-      answer_refused program (Ok b) same h = tt
-      answer_refused program (Err e) same h =
-          program_refused e (subst (λ p. IsFound (IsFirstOf program_trials) p e) same h)
+      -- or its first refusal is that of the text
+      pub answer_refused : (program : Contents) (e : AcceptError) → plain program ≡ program_of s
+          → IsFound (IsFirstOf program_trials) (plain program) e → IsRefused text e
+      answer_refused program e same h = program_refused e (subst (λ p. IsFound (IsFirstOf program_trials) p e) same h)
 
 -- what holds of an error holds where it is handed on
 pub handed_on : {V : Type 0} (P : AcceptError → Type 0) (r : Result V AcceptError) (e : AcceptError) → IsErrAnd r (λ x. x ≡ e) → P e

@@ -51,11 +51,11 @@ Tried trials a = PassesAll trials a ⊎ ((r : Refusal) × IsFirstOf trials a r)
 -- ---- the parts of texts
 
 -- what the lexer finds wrong is no want of memory
-no_memory : (text : List ℕ) → FirstFault text L.Memory → ⊥
+pub no_memory : (text : List ℕ) → FirstFault text L.Memory → ⊥
 no_memory text h = h.4
 
 -- no token is over a limit by a place that can't be
-never_misplaced : (ts : List Token) (line column : ℕ) → FirstOver ts (P.Unexpected line column) → ⊥
+pub never_misplaced : (ts : List Token) (line column : ℕ) → FirstOver ts (P.Unexpected line column) → ⊥
 never_misplaced ts line column h =
     none (slice_get ts h.at) h.over
   where
@@ -65,7 +65,7 @@ never_misplaced ts line column h =
     none (Some t) over = over
 
 -- nor by want of memory
-never_memory : (ts : List Token) → FirstOver ts P.Memory → ⊥
+pub never_memory : (ts : List Token) → FirstOver ts P.Memory → ⊥
 never_memory ts h =
     none (slice_get ts h.at) h.over
   where
@@ -75,7 +75,7 @@ never_memory ts h =
     none (Some t) over = over
 
 -- a fault that is no want of memory is told by a refusal
-told : (cols : ℕ) (e : StaticError) → e ≢ S.Memory → (r : Refusal) × (static_refusal cols e ≡ Some r)
+pub told : (cols : ℕ) (e : StaticError) → e ≢ S.Memory → (r : Refusal) × (static_refusal cols e ≡ Some r)
 told cols (S.Limit limit line) n = (_, refl)
 told cols (S.Twice what line) n = (_, refl)
 told cols (S.OutsideGrid line) n = (_, refl)
@@ -106,7 +106,7 @@ labels_more m ms (Some label) is none rest =
     (label ∷ others.0, cc)
 
 -- where no message is without a label, they have labels
-all_labels : (ms : List Message) → first_unlabelled ms ≡ None → (labels : List ℕ) × (map (λ (n : Message). n.label) ms ≡ map Some labels)
+pub all_labels : (ms : List Message) → first_unlabelled ms ≡ None → (labels : List ℕ) × (map (λ (n : Message). n.label) ms ≡ map Some labels)
 all_labels [] none = ([], refl)
 all_labels (m ∷ ms) none = labels_more m ms m.label refl none (all_labels ms)
 

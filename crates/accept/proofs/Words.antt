@@ -1,14 +1,12 @@
 -- How many words the messages of a program have, and how often they move, where its cells have few steps.
 use Rattle.std.proofs.Common.{◌≡◌, ℕ, zero, suc, ◌+◌, ◌-◌, ◌*◌, ◌<◌, ◌≤◌, Bool, true, false, cond, nat_eq, List, [], ◌∷◌, length, slice_get, get_or, None, Some, ap, subst, ◌∙◌, ⊎_elim, arith}
-use Rattle.std.proofs.Math.Nat.{mul-le-mul, mul-le-mul_left}
+use Rattle.std.proofs.Math.Nat.{mul-le-mul_left}
 use Rattle.std.proofs.lemmas.Bool.{cases_eq, eq-eqb, ne_eqb}
 use Rattle.std.proofs.lemmas.List.Sums.{sum_by-cons, sum_by-append, sum_by-le, sum_by-le-sum_by}
 use Rattle.std.proofs.lemmas.List.{get_or-map, get_or_past, length-map}
 use Rattle.std.proofs.lemmas.Option.{slice_get_cases}
 use Rattle.std.specs.List.{count_by, flat_map, range_with_len, sum_by}
-use Rattle.sys_base.specs.Grid.{Extent, cell_count}
 use Rattle.sys_base.specs.declared.limits.TheConstants.{STEPS}
-use Rattle.routes.specs.Walks.{IsPath}
 use Rattle.cell_types.specs.Code.{Expression, Number, Variable, Counter, Element, Negated, Applied, Action, Set, SetAt, Write, Read, Take, Emit, For, If, Block, End, Then, CellCode, ProgramCode}
 use Rattle.cell_types.specs.Communications.{Communication, Writes, Reads, Takes, Emits, copies, same_communication, times, action_communications, block_communications, length_of}
 use Rattle.cell_types.specs.Cost.{expression_cost, action_cost, block_cost, cells_cost}
@@ -150,37 +148,30 @@ products f r most h (n ∷ ns) =
     let parts = ap (λ k. most * k) (sum_by-cons f n ns) in
     omega (arith, sum_by-cons (λ m. f m * r m) n ns, parts, mul-le-mul_left (f n) (h n), products f r most h ns)
 
--- No route has more than 1024 links.
+-- No route has more than 256 links.
 abbrev pub HasShortRoutes : ProgramCode → Type 0
-HasShortRoutes p = (m : ℕ) → length (route p m) ≤ 1024
+HasShortRoutes p = (m : ℕ) → length (route p m) ≤ 256
 
 -- cells of few steps write few words, which move few times over short routes
 pub few_forwards : (p : ProgramCode) (steps : ℕ) → HasShortRoutes p → steps ≡ cells_cost p → steps ≤ STEPS
-    → forwards p ≤ 2145386496
+    → forwards p ≤ 2139095040
 few_forwards p steps short cost few =
     let n = length p.messages in
-    let moves : forwards p ≤ 1023 * sum_by (length_of p) (below n) =
-    products (length_of p) (λ m. length (route p m) - 1) 1023 (λ m. omega (arith, short m)) (below n) in
+    let moves : forwards p ≤ 255 * sum_by (length_of p) (below n) =
+    products (length_of p) (λ m. length (route p m) - 1) 255 (λ m. omega (arith, short m)) (below n) in
     omega (arith, moves, counted (flat_map of_cell p.cells) n, cells_written p.cells, cost, few)
 
 -- ---- routes
 
--- A path in a grid has at most as many links as the grid has ids.
-abbrev pub ArePathsBounded : Type 0
-ArePathsBounded =
-    (g : Extent) (from to : ℕ) (links : List ℕ) → from < cell_count g → IsPath g from links to → length links ≤ 4 * cell_count g
-
--- the routes of a program without faults are short
-pub short_routes : ArePathsBounded → (p : ProgramCode) → IsSound p → HasShortRoutes p
-short_routes bounded p sound m =
-    let cells : cell_count p.grid ≤ 16 * 16 = mul-le-mul sound.grid.most_rows sound.grid.most_cols in
+-- the routes of a sound program are short
+pub short_routes : (p : ProgramCode) → IsSound p → HasShortRoutes p
+short_routes p sound m =
     ⊎_elim
     (λ (at : (x : Message) × (m < length p.messages) × (slice_get p.messages m ≡ Some x) × (get_or p.messages m x ≡ x)).
     let is : IsSoundMessage p.grid at.0 = subst (IsSoundMessage p.grid) at.3 (sound.messages m at.0 at.1) in
-    let most = bounded p.grid at.0.from at.0.to at.0.route is.sender is.path in
     let same : route p m ≡ at.0.route =
     get_or-map (λ (x : Message). x.route) p.messages m at.0 [] at.1 ∙ ap (λ (x : Message). x.route) at.3 in
-    omega (arith, cells, most, ap length same))
+    omega (arith, is.short, ap length same))
     (λ (past : (length p.messages ≤ m) × (slice_get p.messages m ≡ None)).
     let none : route p m ≡ [] = get_or_past (routes_of p) m [] (omega (arith, past.0, length-map p.messages (λ (x : Message). x.route))) in
     omega (arith, ap length none))

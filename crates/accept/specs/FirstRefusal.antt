@@ -70,8 +70,8 @@ abbrev pub HasUnlikeArms : ProgramCode → Refusal → Type 0
 HasUnlikeArms program (R.ArmsDiffer line) = (cell : ℕ) × (slice_get (all_differing program) 0 ≡ Some (cell, line))
 HasUnlikeArms program _ = ⊥
 
--- These are the operations that the greedy rule crosses for the buffer, something is left, and there is no order for the
--- buffer of any kind.
+-- These are the operations that the greedy rule crosses for the buffer, something is left, and there is no order for
+-- the buffer of any kind.
 pub record StopsShort (s : Sequences) (buffer : ℕ) (crossed : List Comm) : Type 0 where
   pub rule : IsCrossed s buffer crossed
   pub some : 1 ≤ left_of s crossed

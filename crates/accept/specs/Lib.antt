@@ -4,3 +4,4 @@ pub mod Told
 pub mod Labelled
 pub mod FirstRefusal
 pub mod Built
+pub mod Image

@@ -1,5 +1,6 @@
 //! The bound on the steps of a program.
 ghost use Rattle.std.specs.Prelude.{◌≡◌, ℕ, ◌+◌, ◌≤◌, length, sum_by};
+ghost use Rattle.cell_lexer.specs.declared.limits.TheConstants.{PIECE_TOKENS};
 ghost use Rattle.cell_types.specs.Cost.{cells_cost};
 ghost use Rattle.cell_types.specs.Groups.{forwards, route};
 ghost use Rattle.cell_types.specs.Typed.{plain};
@@ -8,8 +9,7 @@ ghost use Rattle.comm_sequence.specs.Sequences.{sequences_of};
 use cell_types::Program;
 use comm_sequence::Seqs;
 use queue_plan::Groups;
-use routes::path_bounds;
-use sys_base::STEPS;
+use sys_base::{MESSAGES, STEPS};
 
 /// The steps of the cells, the moves of words from one link to the next, and the groups of all links.
 pub fn bound_of(program: &Program, seqs: &Seqs, groups: &Groups, steps: u32) -> u32
@@ -37,10 +37,9 @@ fn forwards(program: &Program, seqs: &Seqs) -> u64
     forwards
 }
 
-/// A law: no route has more than 1024 links.
+/// A law: no route has more than 256 links.
 fn short_routes(program: &Program)
-    ensures { (message : ℕ) → length (route (plain program.now) message) ≤ 1024 }
+    ensures { (message : ℕ) → length (route (plain program.now) message) ≤ PIECE_TOKENS }
 {
-    path_bounds();
-    prove!(program.messages().len() <= 512);
+    prove!(program.messages().len() <= MESSAGES);
 }

@@ -4,12 +4,14 @@ ghost use Rattle.cell_types.specs.Faults.{faults};
 ghost use Rattle.cell_types.specs.Resolved.{program_of};
 ghost use Rattle.cell_types.specs.Typed.{plain};
 ghost use Rattle.accept.specs.bodies.Answers.{IsFaultTold};
-ghost use Rattle.accept.specs.Built.{IsBuilt, IsRefused};
+ghost use Rattle.accept.specs.Built.{DoesAsItSays, IsBuilt, IsRefused};
 ghost use Rattle.accept.specs.Source.{IsSource};
 
+use crate::imaging::imaged;
 use crate::judging::judged;
-use crate::laws::laws_below;
+use crate::laws::{accepted_programs_are_faithful, code_laws_below, laws_below};
 use crate::static_faults::static_refusal;
+use cell_code::Image;
 use cell_lexer::tokens;
 use cell_parser::parse;
 use cell_tree::Source;
@@ -36,17 +38,21 @@ pub struct Built {
     /// All writes and reads in the order in which they are crossed off, which is an order for the program's buffer
     /// (`docs/model.md`, "Crossing-off").
     pub order: Items<Comm>,
-    /// The label of each message, by its index: the source's, or the proposed one where the source has none.
-    pub labels: Vec<u16>,
-    /// The bound on the steps (`docs/model.md`, "Bound"), at most `STEPS`.
-    pub bound: u32,
+    /// What an array runs: messages with their labels and lengths, links with their groups, cells with their code, and
+    /// the bound on the steps, at most `STEPS` (`docs/formats.md`, "Objects").
+    pub image: Image,
 }
 
 /// What is made of a source without a refusal, or its first refusal (`docs/refusals.md`). The text may be any bytes.
 ///
+/// For every input, every run of the image at every capacity from one and from the program's buffer on takes at most
+/// the bound's steps, is never stuck before its end, and emits what the program means (`docs/runs.md`, "The image of a
+/// program").
+///
 /// The time is linear in the length of the text, in the steps that its cells take at most and in the lengths of the
 /// routes, but for a logarithm of the number of messages; proposing labels adds at most two million steps.
 pub fn build(alloc: Global, text: &[u8]) -> Result<Built, AcceptError>
+    ensures faithful { IfOk result (λ b. DoesAsItSays (plain b.program) b.image) }
     ensures built { IfOk result (IsBuilt text.now) }
     ensures refused { IfErr result (IsRefused text.now) }
 {
@@ -54,9 +60,12 @@ pub fn build(alloc: Global, text: &[u8]) -> Result<Built, AcceptError>
         return Err(AcceptError::Refused(Refusal::LongSource));
     }
     laws_below();
+    code_laws_below();
+    accepted_programs_are_faithful();
     let source = read(alloc, text)?;
     let program = resolved(alloc, source)?;
-    judged(alloc, program)
+    let accepted = judged(alloc, program)?;
+    Ok(imaged(alloc, accepted)?)
 }
 
 /// The source that a text is, or its first refusal.

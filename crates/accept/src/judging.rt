@@ -1,11 +1,13 @@
-//! What is made of a program, or its first refusal.
-ghost use Rattle.std.specs.Prelude.{◌≡◌, ◌<◌, ◌≤◌, List, IfOk, IfErr};
+//! A program without a refusal, or its first refusal.
+ghost use Rattle.std.specs.Prelude.{◌≡◌, ◌<◌, ◌≤◌, List, length, IfOk, IfErr};
 ghost use Rattle.cell_types.specs.Cost.{cells_cost};
+ghost use Rattle.cell_types.specs.Groups.{lengths_of};
 ghost use Rattle.cell_types.specs.Sound.{IsSound};
 ghost use Rattle.cell_types.specs.Typed.{plain};
 ghost use Rattle.comm_sequence.specs.Sequences.{sequences_of};
 ghost use Rattle.comm_sequence.specs.declared.comm.Comm.{Comm};
 ghost use Rattle.crossing_off.specs.Answer.{IsEmpty};
+ghost use Rattle.queue_plan.specs.Grouping.{all_groups};
 ghost use Rattle.refusals.specs.declared.refusal.Refusal.TheVariants as R;
 ghost use Rattle.accept.specs.bodies.Answers.{IsFound};
 ghost use Rattle.accept.specs.Built.{IsJudged};
@@ -13,7 +15,7 @@ ghost use Rattle.accept.specs.FirstRefusal.{IsFirstOf, IsStalled, PassesAll, lab
 ghost use Rattle.accept.specs.declared.building.AcceptError.TheVariants as A;
 
 use crate::bound::bound_of;
-use crate::building::{AcceptError, Built};
+use crate::building::AcceptError;
 use crate::labels::{labels_of, never_fall};
 use crate::laws::laws_below;
 use crate::queues::fitting_groups;
@@ -21,15 +23,37 @@ use crate::stalls::stall;
 use cell_types::Program;
 use comm_sequence::{Comm, Seqs, cost, sequences};
 use crossing_off::{Crossed, cross};
+use queue_plan::Groups;
 use refusals::Refusal;
 use std::alloc::Global;
 use sys_base::{Items, STEPS};
 
-/// What is made of a program without a refusal, or its first refusal.
-pub fn judged(alloc: Global, program: Program) -> Result<Built, AcceptError>
-    ensures program { IfOk result (λ b. b.program ≡ program) }
-    ensures passes { IfOk result (λ b. PassesAll program_trials (plain program)) }
-    ensures judged { IfOk result (λ b. IsJudged (plain program) b.order b.labels.items b.bound) }
+/// A program without a refusal, and what its image is made of.
+#[derive(Drop)]
+pub struct Accepted {
+    pub program: Program,
+    pub seqs: Seqs,
+    pub order: Items<Comm>,
+    pub plan: Plan,
+}
+
+/// The labels of a program's messages, the groups of its links by them, and the bound on its steps.
+#[derive(Drop)]
+pub struct Plan {
+    pub labels: Vec<u16>,
+    pub groups: Groups,
+    pub bound: u32,
+}
+
+/// A program without a refusal with what its image is made of, or its first refusal.
+pub fn judged(alloc: Global, program: Program) -> Result<Accepted, AcceptError>
+    ensures program { IfOk result (λ j. j.program ≡ program) }
+    ensures passes { IfOk result (λ j. PassesAll program_trials (plain program)) }
+    ensures judged { IfOk result (λ j. IsJudged (plain program) j.order j.plan.labels.items j.plan.bound) }
+    ensures seqs { IfOk result (λ j. j.seqs ≡ sequences_of (plain program)) }
+    ensures each { IfOk result (λ j. length j.plan.labels.items ≡ length program.messages) }
+    ensures groups { IfOk result (λ j.
+        j.plan.groups ≡ all_groups (plain program) j.plan.labels.items (lengths_of (plain program))) }
     ensures refused { IfErr result (IsFound (IsFirstOf program_trials) (plain program)) }
 {
     laws_below();
@@ -38,30 +62,28 @@ pub fn judged(alloc: Global, program: Program) -> Result<Built, AcceptError>
     };
     let seqs = sequences(alloc, &program)?;
     let order = crossing_order(alloc, &program, &seqs)?;
-    let (labels, bound) = bounded(alloc, &program, &seqs, steps)?;
-    Ok(Built {
+    let plan = planned(alloc, &program, &seqs, steps)?;
+    Ok(Accepted {
         program,
+        seqs,
         order,
-        labels,
-        bound,
+        plan,
     })
 }
 
-/// The labels and the bound of a program whose cells take this number of steps, or the first refusal of its labels, its
-/// queues and its bound.
-fn bounded(
-    alloc: Global,
-    program: &Program,
-    seqs: &Seqs,
-    steps: u32,
-) -> Result<(Vec<u16>, u32), AcceptError>
+/// The labels, the groups and the bound of a program whose cells take this number of steps, or the first refusal of its
+/// labels, its queues and its bound.
+fn planned(alloc: Global, program: &Program, seqs: &Seqs, steps: u32) -> Result<Plan, AcceptError>
     requires seqs { seqs.now ≡ sequences_of (plain program.now) }
     requires steps { steps ≡ cells_cost (plain program.now) }
     requires few { steps ≤ STEPS }
     ensures passes { IfOk result (λ _. PassesAll label_trials (plain program.now)) }
     ensures judged { IfOk result (λ r. (order : List Comm)
         → IsEmpty (sequences_of (plain program.now)) program.now.buffer order
-        → IsJudged (plain program.now) order r.0.items r.1) }
+        → IsJudged (plain program.now) order r.labels.items r.bound) }
+    ensures each { IfOk result (λ r. length r.labels.items ≡ length program.now.messages) }
+    ensures groups { IfOk result (λ r.
+        r.groups ≡ all_groups (plain program.now) r.labels.items (lengths_of (plain program.now))) }
     ensures refused { IfErr result (IsFound (IsFirstOf label_trials) (plain program.now)) }
 {
     laws_below();
@@ -70,7 +92,11 @@ fn bounded(
     let groups = fitting_groups(alloc, program, seqs, &labels)?;
     let sum = bound_of(program, seqs, &groups, steps);
     let bound = limited(sum)?;
-    Ok((labels, bound))
+    Ok(Plan {
+        labels,
+        groups,
+        bound,
+    })
 }
 
 /// The order of the greedy rule for the program's buffer, or the refusal of a program that has no order for it.

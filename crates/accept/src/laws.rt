@@ -1,13 +1,27 @@
 ghost use Rattle.std.specs.Prelude.{◌≡◌, ◌⊎◌, ℕ, List};
+ghost use Rattle.cell_code.specs.Images.{IsListed};
+ghost use Rattle.cell_code.specs.declared.image.Image.{Image};
+ghost use Rattle.cell_tree.specs.declared.source.Source.{Source};
+ghost use Rattle.cell_types.specs.Resolved.{program_of};
+ghost use Rattle.program_image.specs.Faithful.{IsFaithful};
+ghost use Rattle.program_image.specs.ImageOf.{image_of};
 ghost use Rattle.refusals.specs.declared.refusal.Refusal.{Refusal};
+ghost use Rattle.accept.specs.Built.{IsBuilt};
 ghost use Rattle.accept.specs.FirstRefusal.{Accepts, FirstRefusal};
-ghost use Rattle.accept.specs.bodies.Laws.{Existence, Laws};
+ghost use Rattle.accept.specs.Image.{IsImageOf};
+ghost use Rattle.accept.specs.Labelled.{AreLabels};
+ghost use Rattle.accept.specs.Source.{IsSource};
+ghost use Rattle.accept.specs.declared.building.Built.{Built};
+ghost use Rattle.accept.specs.bodies.Laws.{CodeLaws, Existence, Laws};
 
+use cell_codegen::code_is_sized;
 use cell_lexer::one_outcome;
-use cell_parser::{one_first_wrong, one_program, read_is_printable, some_limit};
+use cell_parser::{few_nodes, one_first_wrong, one_program, read_is_printable, some_limit};
+use cell_types::few_instructions;
 use comm_sequence::{alike_where_none_differ, sound_programs_have_sequences};
-use crossing_off::{one_greedy_order, one_walk, orders_leave_nothing};
+use crossing_off::{nothing_left_is_an_order, one_greedy_order, one_walk, orders_leave_nothing};
 use labelling::{consistent_or_fall, one_proposal, some_proposal};
+use program_image::{images_are_faithful, images_are_listed};
 use queue_plan::groups_by_link;
 
 /// A law: a text has at most one first refusal, and none where it is accepted.
@@ -26,6 +40,48 @@ pub fn accepted_or_refused()
     existence_below();
 }
 
+/// A law: the image of each accepted program does what the program says (`IsFaithful`). From the program's buffer on,
+/// whatever the input and the schedule, every run of it is bounded, is never stuck before its end, ends clean, and
+/// emits what the program means.
+pub fn accepted_programs_are_faithful()
+    ensures { (text : List ℕ) (source : Source) (labels : List ℕ)
+        → Accepts text → IsSource text source → AreLabels (program_of source) labels
+        → IsFaithful (program_of source) labels (image_of (program_of source) labels) }
+{
+    laws_below();
+    existence_below();
+    nothing_left_is_an_order();
+    images_are_faithful();
+}
+
+/// A law: a text has at most one image, and what is built of a text has its image.
+pub fn one_image()
+    ensures one { (text : List ℕ) (a b : Image) → IsImageOf text a → IsImageOf text b → a ≡ b }
+    ensures built { (text : List ℕ) (b : Built) → IsBuilt text b → IsImageOf text b.image }
+{
+    laws_below();
+}
+
+/// A law: every text that is accepted has an image.
+pub fn some_image()
+    ensures { (text : List ℕ) → Accepts text → (image : Image) × IsImageOf text image }
+{
+    laws_below();
+    existence_below();
+}
+
+/// A law: the image of a text can be written, and it does what the program of the text says.
+pub fn images_do_as_they_say()
+    ensures listed { (text : List ℕ) (image : Image) → IsImageOf text image → IsListed image }
+    ensures faithful { (text : List ℕ) (image : Image) (is : IsImageOf text image)
+        → IsFaithful (program_of is.source) is.labels image }
+{
+    laws_below();
+    existence_below();
+    accepted_programs_are_faithful();
+    images_are_listed();
+}
+
 /// The laws of the layers below by which there is at most one of each thing.
 pub(crate) fn laws_below()
     ensures { Laws }
@@ -38,6 +94,15 @@ pub(crate) fn laws_below()
     one_walk();
     one_proposal();
     groups_by_link();
+}
+
+/// The laws of the layers below by which the code of a cell is short.
+pub(crate) fn code_laws_below()
+    ensures { CodeLaws }
+{
+    few_nodes();
+    few_instructions();
+    code_is_sized();
 }
 
 /// The laws of the layers below by which there is one of each thing.

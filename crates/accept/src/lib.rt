@@ -4,6 +4,7 @@
 mod bound;
 mod building;
 mod errors;
+mod imaging;
 mod judging;
 mod labels;
 mod laws;
@@ -12,4 +13,7 @@ mod stalls;
 mod static_faults;
 
 pub use building::{AcceptError, Built, build};
-pub use laws::{accepted_or_refused, one_first_refusal};
+pub use laws::{
+    accepted_or_refused, accepted_programs_are_faithful, images_do_as_they_say, one_first_refusal,
+    one_image, some_image,
+};

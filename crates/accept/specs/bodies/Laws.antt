@@ -11,14 +11,17 @@ use Rattle.cell_parser.specs.Lexeme.{Lexeme, lexemes}
 use Rattle.cell_parser.specs.Limits.{KeepLimits, FirstOver}
 use Rattle.cell_parser.specs.Refusal.{WrongAt}
 use Rattle.cell_parser.specs.declared.error.ParseError.{ParseError}
+use Rattle.cell_codegen.specs.Emission.{body_code}
+use Rattle.cell_tree.specs.Nodes.{source_nodes}
 use Rattle.cell_tree.specs.Printable.{IsPrintable}
 use Rattle.cell_tree.specs.declared.source.Source.{Source}
 use Rattle.cell_types.specs.Alike.{Alike}
-use Rattle.cell_types.specs.Code.{ProgramCode}
+use Rattle.cell_types.specs.Code.{CellCode, ProgramCode}
 use Rattle.cell_types.specs.Cost.{cells_cost}
 use Rattle.cell_types.specs.Faults.{faults}
 use Rattle.cell_types.specs.Groups.{group_count, lengths_of}
 use Rattle.cell_types.specs.Resolved.{program_of}
+use Rattle.cell_types.specs.Size.{block_size, cell_size}
 use Rattle.cell_types.specs.Sound.{IsSound}
 use Rattle.cell_types.specs.declared.error.StaticError.{StaticError}
 use Rattle.cell_types.specs.declared.error.StaticError.TheVariants as S
@@ -79,3 +82,12 @@ pub record Existence : Type 0 where
       → (labels : List ℕ) × IsProposal lists count labels
   pub fall : (lists : List (List Comm)) (labels : List ℕ)
       → IsConsistent lists labels ⊎ ((f : Fall) × IsFall lists labels f)
+
+-- A source has no more nodes than its text has bytes; a cell has no more instructions to its statements than its
+-- source has nodes; and the code of a cell is as long as is counted.
+pub record CodeLaws : Type 0 where
+  pub nodes : (text : List ℕ) (ts : List Token) (s : Source) → TokensOf text ts → Reads (lexemes text ts) s
+      → source_nodes s ≤ length text
+  pub instructions : (source : Source)
+      → All (λ (c : CellCode). block_size c.body ≤ source_nodes source) (program_of source).cells
+  pub sized : (cell : CellCode) → length (body_code cell.body) ≡ cell_size cell

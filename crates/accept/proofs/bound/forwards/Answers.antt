@@ -15,7 +15,7 @@ within : (c : goal.After-len) → c.loop-index.index < length c.args.program.now
 within c = omega (arith, ap length c.messages-message-items.ensures.messages, c.loop-index-test.true)
 
 -- the words of one message move at most so often
-few : (c : goal.After-len) → c.from-words.result * (c.len.result - 1) ≤ 4393751542785
+few : (c : goal.After-len) → c.from-words.result * (c.len.result - 1) ≤ 1095216660225
 few c =
     let p = plain c.args.program.now in
     let h = few_moves p c.loop-index.index c.length.result c.message-item.result c.short_routes.ensures (within c) (at c) (omega arith) in

@@ -6,5 +6,5 @@ use Rattle.accept.proofs.bound.forwards.Given as goal
 abbrev pub invariant-loop-index : goal.invariant-loop-index
 invariant-loop-index l = record {
   sum : l.forwards ≡ moves_before (plain l.program) l.index;
-  small : l.forwards ≤ l.index * 4393751542785;
+  small : l.forwards ≤ l.index * 1095216660225;
 }

@@ -1,7 +1,13 @@
-use Rattle.std.proofs.Common.{rules, ◌≤◌, length}
+use Rattle.std.proofs.Common.{rules, ◌∙◌, ap, sym, subst, ◌≤◌, length}
 use Rattle.sys_base.specs.declared.limits.TheConstants.{SOURCE_BYTES}
-use Rattle.accept.proofs.Refused.{fault_refused, answer_built, answer_refused, handed_on}
-use Rattle.accept.specs.Built.{IsRefused}
+use Rattle.cell_types.specs.Groups.{lengths_of}
+use Rattle.cell_types.specs.Typed.{plain}
+use Rattle.program_image.specs.ImageOf.{image_of}
+use Rattle.queue_plan.specs.Grouping.{all_groups}
+use Rattle.accept.proofs.Accepted.{built_runs}
+use Rattle.accept.proofs.Imaged.{short_code}
+use Rattle.accept.proofs.Refused.{fault_refused, is_built, answer_refused, handed_on}
+use Rattle.accept.specs.Built.{IsBuilt, IsRefused}
 use Rattle.accept.proofs.building.build.Goals as goal
 
 pub returns-in_err-program-clause-refused : goal.returns-in_err-program-clause-refused
@@ -11,16 +17,38 @@ returns-in_err-program-clause-refused c =
     (fault_refused c.args.text.now short c.laws_below.ensures c.in_ok-source.source c.in_ok-source.ensures.source
     c.in_err-program.field-0.0 c.in_err-program.ensures.fault)
 
+pub returns-in_err-accepted-clause-refused : goal.returns-in_err-accepted-clause-refused
+returns-in_err-accepted-clause-refused c =
+    let short : length c.args.text.now ≤ SOURCE_BYTES = search rules in
+    handed_on (IsRefused c.args.text.now) _ c.in_err-accepted.field-0.0 c.from_residual-in_err-accepted.ensures.1
+    (answer_refused c.args.text.now short c.laws_below.ensures c.in_ok-source.source c.in_ok-source.ensures.source
+    c.in_ok-program.ensures.program.0 c.in_ok-program.program c.in_err-accepted.field-0.0 c.in_ok-program.ensures.program.1
+    c.in_err-accepted.ensures.refused)
+
+pub imaged-requires-clause-groups : goal.imaged-requires-clause-groups
+imaged-requires-clause-groups c =
+    c.in_ok-accepted.ensures.groups
+    ∙ ap (λ p. all_groups (plain p) c.in_ok-accepted.accepted.plan.labels.items (lengths_of (plain p)))
+    (sym c.in_ok-accepted.ensures.program)
+
+pub imaged-requires-clause-room : goal.imaged-requires-clause-room
+imaged-requires-clause-room c cell =
+    let short : length c.args.text.now ≤ SOURCE_BYTES = search rules in
+    short_code c.code_laws_below.ensures c.args.text.now c.in_ok-source.source short c.in_ok-source.ensures.source
+    (plain c.in_ok-accepted.accepted.program) (ap plain c.in_ok-accepted.ensures.program ∙ c.in_ok-program.ensures.program.1) cell
+
 pub returns-clause-built : goal.returns-clause-built
 returns-clause-built c =
     let short : length c.args.text.now ≤ SOURCE_BYTES = search rules in
-    answer_built c.args.text.now short c.laws_below.ensures c.in_ok-source.source c.in_ok-source.ensures.source
-    c.in_ok-program.ensures.program.0 c.in_ok-program.program c.judged.result c.in_ok-program.ensures.program.1
-    c.judged.ensures.program c.judged.ensures.passes c.judged.ensures.judged
+    is_built c.args.text.now short c.laws_below.ensures c.in_ok-source.source c.in_ok-source.ensures.source
+    c.in_ok-program.ensures.program.0 c.in_ok-program.program c.in_ok-imaged.field-0 c.in_ok-accepted.accepted.order
+    c.in_ok-accepted.accepted.plan.labels.items c.in_ok-accepted.accepted.plan.bound c.in_ok-program.ensures.program.1
+    c.in_ok-accepted.ensures.passes c.in_ok-accepted.ensures.judged
+    (c.in_ok-imaged.ensures.program ∙ c.in_ok-accepted.ensures.program) c.in_ok-imaged.ensures.order
+    (c.in_ok-imaged.ensures.image
+    ∙ ap (λ p. image_of (plain p) c.in_ok-accepted.accepted.plan.labels.items) c.in_ok-accepted.ensures.program)
 
-pub returns-clause-refused : goal.returns-clause-refused
-returns-clause-refused c =
-    let short : length c.args.text.now ≤ SOURCE_BYTES = search rules in
-    answer_refused c.args.text.now short c.laws_below.ensures c.in_ok-source.source c.in_ok-source.ensures.source
-    c.in_ok-program.ensures.program.0 c.in_ok-program.program c.judged.result c.in_ok-program.ensures.program.1
-    c.judged.ensures.refused
+pub returns-clause-faithful : goal.returns-clause-faithful
+returns-clause-faithful c =
+    let built : IsBuilt c.args.text.now c.in_ok-imaged.field-0 = returns-clause-built c in
+    built_runs c.accepted_programs_are_faithful.ensures c.args.text.now c.in_ok-imaged.field-0 built

@@ -4,7 +4,7 @@ use Rattle.accept.specs.bodies.Answers.{IsFound}
 use Rattle.accept.specs.FirstRefusal.{IsFirstOf, label_trials}
 use Rattle.accept.proofs.Judged.{bound_is, falling_first, few_first, over_first, passes, judged}
 use Rattle.accept.proofs.Refused.{handed_on}
-use Rattle.accept.proofs.judging.bounded.Goals as goal
+use Rattle.accept.proofs.judging.planned.Goals as goal
 
 pub returns-in_err-never_fall-clause-refused : goal.returns-in_err-never_fall-clause-refused
 returns-in_err-never_fall-clause-refused c =
