@@ -23,8 +23,8 @@ fn answer(rt: &HostRuntime, words: &[String]) -> Status {
     systole(rt.alloc(), words, &mut shelf, &mut out, &mut err)
 }
 
-// The words of the command line without the program's own name. Where a word isn't text the command line is faulty: it is
-// answered as no words are.
+// The words of the command line without the program's own name. Where a word isn't text the command line is faulty: it
+// is answered as no words are.
 fn command_words(rt: &HostRuntime) -> Result<Vec<String>, AllocError> {
     let mut words = Vec::new(rt.alloc());
     match env::args(rt) {

@@ -1,7 +1,7 @@
 -- A command reads no file but those that it names.
 use Rattle.std.proofs.Common.{ℕ, List, Option, Contains, refl, sym, subst, inl, inr, arith}
-use Rattle.systole_top.specs.Commands.{judgement_of, judged, check_reply, explain_reply, tree_of, files_of}
-use Rattle.systole_top.specs.Shape.{Shape, Check, Explain}
+use Rattle.systole_top.specs.Commands.{judgement_of, judged, check_reply, explain_reply, compile_reply, tree_of, files_of}
+use Rattle.systole_top.specs.Shape.{Shape, Check, Explain, Compile}
 use Rattle.systole_top.specs.Tree.{Tree, Gives, Reads, Picks, then_, Tries, Asks}
 use Rattle.sys_base.specs.declared.limits.TheConstants.{SOURCE_BYTES}
 
@@ -36,3 +36,6 @@ asks (Check file) =
 asks (Explain file) =
     let These = Contains (files_of (Explain file)) in
     asks_then These (judged file) (λ judgement. Gives (explain_reply judgement)) (asks_judged These file (0, omega arith, refl)) (λ x. tt)
+asks (Compile file) =
+    let These = Contains (files_of (Compile file)) in
+    asks_then These (judged file) (λ judgement. Gives (compile_reply judgement)) (asks_judged These file (0, omega arith, refl)) (λ x. tt)

@@ -4,10 +4,11 @@ use Rattle.std.specs.Io.KnownBytes.{Appends}
 use Rattle.sys_outside.specs.Fault.{Rose}
 use Rattle.systole_top.specs.Causes.{IsAnswer, Names, IsUnread, May, Tells, Answers, Judges, Checks, UsageCause, ReadCause, MemoryCause, StoodStill, Completes}
 use Rattle.systole_top.specs.Commands.{tree_of, files_of}
+use Rattle.systole_top.specs.Correctness.{Compiles}
 use Rattle.systole_top.specs.Reply.{Reply, Outcome, status_of, outcome_of, usage, unread, no_memory}
 use Rattle.systole_top.specs.bodies.Runs.{Unread, NoMemory, End, Gave, Stopped, Runs, Steps}
 use Rattle.systole_top.specs.Shape.{Shape}
-use Rattle.systole_top.specs.Sides.{Stream, stream, Reaches, PutsOn}
+use Rattle.systole_top.specs.Sides.{Stream, Reaches, PutsOn}
 use Rattle.systole_top.specs.bodies.Stops.{ended, reply_of, told_by}
 use Rattle.systole_top.specs.Texts.{cannot_read, usage_line}
 use Rattle.systole_top.specs.Tree.{Tree, Gives, Reads, Picks, within, Replies, Comes, Tries, Asks}
@@ -17,8 +18,9 @@ use Rattle.systole_top.specs.declared.answer.Verdict.{Verdict}
 use Rattle.systole_top.specs.declared.answer.Verdict.TheVariants.{Done, Refused}
 use Rattle.systole_top.specs.declared.status.Status.{Status}
 use Rattle.systole_top.proofs.Asked.{asks, asks_tries}
-use Rattle.systole_top.proofs.Checked.{SomeJudgement, checks_of, some_answer}
-use Rattle.systole_top.proofs.Reaching.{reaches_err}
+use Rattle.systole_top.proofs.Checked.{SomeImage, SomeJudgement, checks_of, some_answer}
+use Rattle.systole_top.proofs.Compiled.{DoAsTheySay, compiles_of}
+use Rattle.systole_top.proofs.Reaching.{untouched, reaches_err}
 
 -- ---- verdicts
 
@@ -299,9 +301,9 @@ module _ (held : List ℕ → Option (List ℕ)) (before now : List ℕ → ℕ)
         ]
       ]
 
-  completes_of : SomeJudgement → (asked : Option Shape) → Answers asked held before now out err status → Completes asked held before now out err status
-  completes_of law asked answers files on_out on_err =
-      let a = some_answer law held asked (λ name named. (files name named).0) in
+  completes_of : SomeJudgement → SomeImage → (asked : Option Shape) → Answers asked held before now out err status → Completes asked held before now out err status
+  completes_of law images asked answers files on_out on_err =
+      let a = some_answer law images held asked (λ name named. (files name named).0) in
       (a.0, a.1, status_of_answer asked answers a.0 a.1 (λ name named. (files name named).1) on_out on_err)
 
 module _ {asked : Option Shape} {held : List ℕ → Option (List ℕ)} {before now : List ℕ → ℕ} {out err : Stream} {status : Status} (t : Tells asked held before now out err status) where
@@ -311,8 +313,8 @@ module _ {asked : Option Shape} {held : List ℕ → Option (List ℕ)} {before 
   pub judges : Judges asked held out err status
   judges = judges_of held before now out err status asked t.told t.may t.reaches
 
-  pub checks : Checks asked held out err status
-  checks = checks_of held before now out err status asked answers judges
+  pub checks : SomeImage → Checks asked held out err status
+  checks images = checks_of held before now out err status images asked answers judges
 
   pub usage_cause : UsageCause asked status
   usage_cause = usage_of held before now out err status asked t.told t.may t.reaches
@@ -326,19 +328,22 @@ module _ {asked : Option Shape} {held : List ℕ → Option (List ℕ)} {before 
   pub memory_cause : status ≡ Status.Memory → MemoryCause out err
   memory_cause = memory_of held before now out err status asked t.told t.may t.reaches
 
-  pub completes : SomeJudgement → Completes asked held before now out err status
-  completes law = completes_of held before now out err status law asked answers
+  pub completes : SomeJudgement → SomeImage → Completes asked held before now out err status
+  completes law images = completes_of held before now out err status law images asked answers
+
+  pub compiles : DoAsTheySay → Compiles asked held out err status
+  compiles law = compiles_of held before now out err status law asked t.told t.may t.reaches
 
 -- ---- what was told
 
 -- of words with no shape
-pub tells_usage : {asked : Option Shape} {held : List ℕ → Option (List ℕ)} {before now : List ℕ → ℕ} (kept : Option (List ℕ)) (count : ℕ) (err : Stream) {status : Status}
-    → None ≡ asked → PutsOn err usage_line Status.Usage status → Tells asked held before now (stream kept kept count count) err status
-tells_usage {asked} {held} {before} {now} kept count err {status} none put =
+pub tells_usage : {asked : Option Shape} {held : List ℕ → Option (List ℕ)} {before now : List ℕ → ℕ} (kept : Option (List ℕ)) (faults wants : ℕ) (err : Stream) {status : Status}
+    → None ≡ asked → PutsOn err usage_line Status.Usage status → Tells asked held before now (untouched kept faults wants) err status
+tells_usage {asked} {held} {before} {now} kept faults wants err {status} none put =
     record {
       told = usage;
       may = subst (λ s. May s held before now usage) none refl;
-      reaches = reaches_err err kept count usage_line Status.Usage status put;
+      reaches = reaches_err err kept faults wants usage_line Status.Usage status put;
     }
 
 -- of a command

@@ -2,12 +2,15 @@
 use Rattle.std.specs.Prelude.{ℕ, ◌≡◌, ◌⊎◌, ◌≢◌, ◌-◌, ◌^◌, ◌<◌, List, [], Option, None, Some, IsSome, IfSome, Contains}
 use Rattle.std.specs.Io.KnownBytes.{Appends, Keeps}
 use Rattle.accept.specs.FirstRefusal.{Accepts, FirstRefusal}
+use Rattle.accept.specs.Image.{IsImageOf}
+use Rattle.cell_code.specs.declared.image.Image.{Image}
+use Rattle.object_io.specs.Objects.{object_text}
 use Rattle.refusals.specs.Explanations.{explanation}
 use Rattle.refusals.specs.declared.refusal.Refusal.{Refusal}
 use Rattle.sys_outside.specs.Fault.{Rose}
 use Rattle.systole_top.specs.Commands.{tree_of, files_of}
 use Rattle.systole_top.specs.Reply.{Reply, Outcome, status_of, outcome_of, usage, unread, no_memory}
-use Rattle.systole_top.specs.Shape.{Shape, Check, Explain}
+use Rattle.systole_top.specs.Shape.{Shape, Check, Explain, Compile}
 use Rattle.systole_top.specs.Sides.{Stream, Reaches}
 use Rattle.systole_top.specs.Texts.{cannot_read, accepted_line, out_of_memory, refusal_line}
 use Rattle.systole_top.specs.Tree.{Replies, Comes, Tries}
@@ -79,25 +82,29 @@ abbrev pub IsOrFault : Status → Status → Type 0
 IsOrFault wanted status =
     (status ≡ wanted) ⊎ (status ≡ Status.ReadFault) ⊎ (status ≡ Status.WriteFault) ⊎ (status ≡ Status.Memory)
 
--- What is said of a text: Done and `accepted` exactly where the text has no refusal, Refused and these bytes on each
--- side for the first refusal exactly where it has one, but for faults.
-pub record IsChecked (on_out on_err : Refusal → List ℕ) (text : List ℕ) (out err : Stream) (status : Status)
-    : Type 0 where
-  pub done : status ≡ Status.Done
-      → Accepts text × Appends out.told_before out.told_now accepted_line × Appends err.told_before err.told_now []
+-- What is said of a text: Done and the bytes for its image exactly where the text has no refusal, Refused and these
+-- bytes on each side for the first refusal exactly where it has one, but for faults.
+pub record IsChecked (wanted : Image → List ℕ) (on_out on_err : Refusal → List ℕ) (text : List ℕ) (out err : Stream)
+    (status : Status) : Type 0 where
+  pub done : status ≡ Status.Done → (image : Image) × IsImageOf text image
+      × Appends out.told_before out.told_now (wanted image) × Appends err.told_before err.told_now []
   pub refused : status ≡ Status.Refused → (r : Refusal) × FirstRefusal text r
       × Appends out.told_before out.told_now (on_out r) × Appends err.told_before err.told_now (on_err r)
   pub accepted : Accepts text → IsOrFault Status.Done status
   pub first : (r : Refusal) → FirstRefusal text r → IsOrFault Status.Refused status
 
--- Where the words are `check F` or `explain F` and the file F is told, its text is checked: `check` puts the line of
--- the first refusal on standard error, and `explain` its explanation on standard output.
+-- Where the words are `check F`, `explain F` or `compile F` and the file F is told, its text is checked. For a text
+-- without a refusal `check` and `explain` put `accepted` on standard output, and `compile` the object of its image. For
+-- another one `check` and `compile` put the line of the first refusal on standard error, and `explain` its explanation
+-- on standard output.
 abbrev pub Checks : Option Shape → (List ℕ → Option (List ℕ)) → Stream → Stream → Status → Type 0
 Checks None held out err status = Unit {0}
 Checks (Some (Check file)) held out err status =
-    IfSome (held file) (λ text. IsChecked (λ r. []) refusal_line text out err status)
+    IfSome (held file) (λ text. IsChecked (λ image. accepted_line) (λ r. []) refusal_line text out err status)
 Checks (Some (Explain file)) held out err status =
-    IfSome (held file) (λ text. IsChecked explanation (λ r. []) text out err status)
+    IfSome (held file) (λ text. IsChecked (λ image. accepted_line) explanation (λ r. []) text out err status)
+Checks (Some (Compile file)) held out err status =
+    IfSome (held file) (λ text. IsChecked object_text (λ r. []) refusal_line text out err status)
 
 -- Words with no shape are a faulty command line, unless a put failed or memory ran out; others never are.
 abbrev pub UsageCause : Option Shape → Status → Type 0
@@ -123,7 +130,8 @@ StoodStill before now = (now ≡ before) × (before < 2 ^ 64 - 1)
 
 -- Where the files that the words name are told, and no count of these files or of the sinks rose, there is an answer,
 -- and the status is the answer's, or memory ran out.
-abbrev pub Completes : Option Shape → (List ℕ → Option (List ℕ)) → (List ℕ → ℕ) → (List ℕ → ℕ) → Stream → Stream → Status
+abbrev pub Completes : Option Shape → (List ℕ → Option (List ℕ)) → (List ℕ → ℕ) → (List ℕ → ℕ) → Stream → Stream
+    → Status
     → Type 0
 Completes asked held before now out err status =
     ((name : List ℕ) → Names asked name → IsSome (held name) × StoodStill (before name) (now name))

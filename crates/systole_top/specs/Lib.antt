@@ -8,4 +8,5 @@ pub mod Tree
 pub mod Commands
 pub mod Sides
 pub mod Causes
+pub mod Correctness
 pub mod Promises

@@ -2,8 +2,9 @@
 use Rattle.std.specs.Prelude.{ℕ, ◌≡◌, ◌⊎◌, List, Option}
 use Rattle.sys_outside.specs.Fault.{Rose}
 use Rattle.systole_top.specs.Causes.{Tells, Answers, Judges, Checks, UsageCause, ReadCause, MemoryCause, Completes}
+use Rattle.systole_top.specs.Correctness.{Compiles}
 use Rattle.systole_top.specs.Shape.{Shape}
-use Rattle.systole_top.specs.Sides.{Stream}
+use Rattle.systole_top.specs.Sides.{Stream, WantsLastOfBoth}
 use Rattle.systole_top.specs.declared.status.Status.{Status}
 
 -- A whole call: what its words ask, the files that the shelf told, the counts of faults of its files before and now,
@@ -24,13 +25,15 @@ call asked held before now out err status =
 
 -- What holds of every call.
 pub record Promises (c : Call) : Type 0 where
+  -- what `compile` puts with Done is an array program that does what the text says: no run of it can stall
+  pub compiles : Compiles c.asked c.held c.out c.err c.status
   -- one outcome that may be told was told
   pub tells : Tells c.asked c.held c.before c.now c.out c.err c.status
   -- it is the answer, where there is one, but for faults and want of memory
   pub answer : Answers c.asked c.held c.before c.now c.out c.err c.status
   -- a verdict is that of the answer, and the answer is on the sinks
   pub judges : Judges c.asked c.held c.out c.err c.status
-  -- what `check` and `explain` say of a text
+  -- what `check`, `explain` and `compile` say of a text
   pub checks : Checks c.asked c.held c.out c.err c.status
   -- a faulty command line, exactly where the words have no shape
   pub usage : UsageCause c.asked c.status
@@ -41,5 +44,9 @@ pub record Promises (c : Call) : Type 0 where
       → Rose c.out.faults_before c.out.faults_now ⊎ Rose c.err.faults_before c.err.faults_now
   -- what is put where memory ran out
   pub memory : c.status ≡ Status.Memory → MemoryCause c.out c.err
+  -- a put on standard output that wanted memory was the only put
+  pub out_wants : WantsLastOfBoth c.out c.err c.status
+  -- a put on standard error that wanted memory was the only put
+  pub err_wants : WantsLastOfBoth c.err c.out c.status
   -- without faults, the status is that of the answer
   pub complete : Completes c.asked c.held c.before c.now c.out c.err c.status

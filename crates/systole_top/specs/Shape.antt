@@ -6,12 +6,14 @@ use Rattle.systole_top.specs.declared.words.Command.{Command}
 pub data Shape : Type 0 where
   Check : (file : List ℕ) → Shape
   Explain : (file : List ℕ) → Shape
+  Compile : (file : List ℕ) → Shape
 
 -- the shape of a word and a file name
 abbrev pub file_shape : List ℕ → List ℕ → Option Shape
 file_shape command file =
     if bytes_eq command (codes "check") then Some (Check file) else (
-    if bytes_eq command (codes "explain") then Some (Explain file) else None)
+    if bytes_eq command (codes "explain") then Some (Explain file) else (
+    if bytes_eq command (codes "compile") then Some (Compile file) else None))
 
 -- the shape of the words, if they have one
 abbrev pub shape : List (List ℕ) → Option Shape
@@ -22,3 +24,4 @@ shape _ = None
 abbrev pub seen : Command → Shape
 seen (Command.Check file) = Check file.now
 seen (Command.Explain file) = Explain file.now
+seen (Command.Compile file) = Compile file.now

@@ -38,7 +38,8 @@ abbrev pub Tries : {A : Type 0} → (List ℕ → Option (List ℕ)) → Tree A 
 Tries held (Gives x) wanted = ⊥
 Tries held (Reads name limit next) wanted =
     (wanted ≡ name)
-    ⊎ ((file : Option (List ℕ)) × IfSome (held name) (λ bytes. file ≡ within limit bytes) × Tries held (next file) wanted)
+    ⊎ ((file : Option (List ℕ)) × IfSome (held name) (λ bytes. file ≡ within limit bytes)
+    × Tries held (next file) wanted)
 Tries held (Picks {X} P next) wanted = (x : X) × IsOnly P x × Tries held (next x) wanted
 
 -- No other files are read.

@@ -1,5 +1,5 @@
-ghost use Rattle.std.specs.Prelude.{◌≡◌, IfOk};
-ghost use Rattle.systole_top.specs.Commands.{accepted_reply, check_reply, tree_of};
+ghost use Rattle.std.specs.Prelude.{◌≡◌, [], IfOk};
+ghost use Rattle.systole_top.specs.Commands.{accepted_reply, check_reply, refused_reply, tree_of};
 ghost use Rattle.systole_top.specs.bodies.Runs.{Steps, Shows};
 ghost use Rattle.systole_top.specs.Shape.{Check};
 ghost use Rattle.systole_top.specs.bodies.Stops.{ended, reply_of};
@@ -26,12 +26,8 @@ fn check_reply(alloc: Global, judgement: Judgement) -> Result<Answer, Stop>
     ensures { Shows (Gives (check_reply judgement)) (ended reply_of result) }
 {
     match judgement {
-        Judgement::Accepted => accepted_reply(alloc),
-        Judgement::Refused(refusal) => Ok(Answer {
-            verdict: Verdict::Refused,
-            side: Side::Err,
-            text: refusal_line(alloc, &refusal)?,
-        }),
+        Judgement::Accepted(_) => accepted_reply(alloc),
+        Judgement::Refused(refusal) => refused_reply(alloc, refusal),
     }
 }
 
@@ -43,6 +39,17 @@ pub fn accepted_reply(alloc: Global) -> Result<Answer, Stop>
         verdict: Verdict::Done,
         side: Side::Out,
         text: accepted_line(alloc)?,
+    })
+}
+
+/// Says why the source is refused.
+pub fn refused_reply(alloc: Global, refusal: Refusal) -> Result<Answer, Stop>
+    ensures { Shows (Gives (refused_reply [] (refusal_line refusal))) (ended reply_of result) }
+{
+    Ok(Answer {
+        verdict: Verdict::Refused,
+        side: Side::Err,
+        text: refusal_line(alloc, &refusal)?,
     })
 }
 

@@ -5,6 +5,7 @@ ghost use Rattle.systole_top.specs.bodies.Stops.{ended, reply_of};
 
 use crate::answer::{Answer, Stop};
 use crate::check::check;
+use crate::compile::compile;
 use crate::explain::explain;
 use crate::words::Command;
 use std::alloc::Global;
@@ -22,5 +23,6 @@ pub fn answer_command<S: Shelf>(
     match command {
         Command::Check(file) => check(alloc, shelf, file),
         Command::Explain(file) => explain(alloc, shelf, file),
+        Command::Compile(file) => compile(alloc, shelf, file),
     }
 }

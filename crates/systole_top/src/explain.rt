@@ -24,7 +24,7 @@ fn explain_reply(alloc: Global, judgement: Judgement) -> Result<Answer, Stop>
     ensures { Shows (Gives (explain_reply judgement)) (ended reply_of result) }
 {
     match judgement {
-        Judgement::Accepted => accepted_reply(alloc),
+        Judgement::Accepted(_) => accepted_reply(alloc),
         Judgement::Refused(refusal) => Ok(Answer {
             verdict: Verdict::Refused,
             side: Side::Out,

@@ -4,6 +4,7 @@
 mod answer;
 mod check;
 mod command;
+mod compile;
 mod explain;
 mod judgement;
 mod read;

@@ -1,6 +1,6 @@
 ghost use Rattle.std.specs.Prelude.{◌≡◌};
 ghost use Rattle.systole_top.specs.Reply.{outcome_of, status_of};
-ghost use Rattle.systole_top.specs.Sides.{PutsOn, Reaches, stream};
+ghost use Rattle.systole_top.specs.Sides.{PutsOn, Reaches, WantsLast, WantsLastOfBoth, stream};
 ghost use Rattle.systole_top.specs.bodies.Stops.{reply_of, told_by};
 ghost use Rattle.systole_top.specs.Texts.{usage_line, out_of_memory};
 
@@ -9,10 +9,14 @@ use crate::status::Status;
 use sys_outside::{Sink, SinkError};
 
 /// Puts an answer, or why there is none.
-#[tactic(auto, using(crate::proofs::Reaching::reaches_out, crate::proofs::Reaching::reaches_err))]
+#[tactic(auto, using(crate::proofs::Reaching::reaches_out, crate::proofs::Reaching::reaches_err, crate::proofs::Reaching::alone, crate::proofs::Reaching::never))]
 pub fn say<O: Sink, E: Sink>(answer: Result<Answer, Stop>, out: &mut O, err: &mut E) -> Status
-    ensures { Reaches (stream (O.taken out.old) (O.taken out.new) (O.faults out.old) (O.faults out.new))
-        (stream (E.taken err.old) (E.taken err.new) (E.faults err.old) (E.faults err.new)) (told_by answer) result }
+    ensures tells { Reaches (stream O.taken O.faults O.wants out.old out.new)
+        (stream E.taken E.faults E.wants err.old err.new) (told_by answer) result }
+    ensures out_wants { WantsLastOfBoth (stream O.taken O.faults O.wants out.old out.new)
+        (stream E.taken E.faults E.wants err.old err.new) result }
+    ensures err_wants { WantsLastOfBoth (stream E.taken E.faults E.wants err.old err.new)
+        (stream O.taken O.faults O.wants out.old out.new) result }
 {
     match answer {
         Ok(answer) => say_answer(&answer, out, err),
@@ -21,11 +25,14 @@ pub fn say<O: Sink, E: Sink>(answer: Result<Answer, Stop>, out: &mut O, err: &mu
     }
 }
 
-#[tactic(auto, using(crate::proofs::Reaching::reaches_out, crate::proofs::Reaching::reaches_err))]
+#[tactic(auto, using(crate::proofs::Reaching::reaches_out, crate::proofs::Reaching::reaches_err, crate::proofs::Reaching::alone, crate::proofs::Reaching::never))]
 fn say_answer<O: Sink, E: Sink>(answer: &Answer, out: &mut O, err: &mut E) -> Status
-    ensures { Reaches (stream (O.taken out.old) (O.taken out.new) (O.faults out.old) (O.faults out.new))
-        (stream (E.taken err.old) (E.taken err.new) (E.faults err.old) (E.faults err.new))
-        (outcome_of (reply_of answer.now)) result }
+    ensures tells { Reaches (stream O.taken O.faults O.wants out.old out.new)
+        (stream E.taken E.faults E.wants err.old err.new) (outcome_of (reply_of answer.now)) result }
+    ensures out_wants { WantsLastOfBoth (stream O.taken O.faults O.wants out.old out.new)
+        (stream E.taken E.faults E.wants err.old err.new) result }
+    ensures err_wants { WantsLastOfBoth (stream E.taken E.faults E.wants err.old err.new)
+        (stream O.taken O.faults O.wants out.old out.new) result }
 {
     let status = status_of(answer.verdict);
     match answer.side {
@@ -46,24 +53,24 @@ fn status_of(verdict: Verdict) -> Status
 /// Says that the words are no command.
 #[tactic(auto, unfolding(crate::specs::Texts::usage_line))]
 pub fn say_usage<E: Sink>(err: &mut E) -> Status
-    ensures { PutsOn (stream (E.taken err.old) (E.taken err.new) (E.faults err.old) (E.faults err.new))
-        usage_line Status.Usage result }
+    ensures tells { PutsOn (stream E.taken E.faults E.wants err.old err.new) usage_line Status.Usage result }
+    ensures wants { WantsLast (stream E.taken E.faults E.wants err.old err.new) result }
 {
     put(err, b"usage: systole COMMAND WORDS\n", Status::Usage)
 }
 
 #[tactic(auto, unfolding(crate::specs::Texts::out_of_memory))]
 fn say_no_memory<E: Sink>(err: &mut E) -> Status
-    ensures { PutsOn (stream (E.taken err.old) (E.taken err.new) (E.faults err.old) (E.faults err.new))
-        out_of_memory Status.Memory result }
+    ensures tells { PutsOn (stream E.taken E.faults E.wants err.old err.new) out_of_memory Status.Memory result }
+    ensures wants { WantsLast (stream E.taken E.faults E.wants err.old err.new) result }
 {
     put(err, b"out of memory\n", Status::Memory)
 }
 
 // Puts a text in one piece. Nothing is put after it, whatever comes of it.
 fn put<S: Sink>(sink: &mut S, text: &[u8], status: Status) -> Status
-    ensures { PutsOn (stream (S.taken sink.old) (S.taken sink.new) (S.faults sink.old) (S.faults sink.new))
-        text.now status result }
+    ensures tells { PutsOn (stream S.taken S.faults S.wants sink.old sink.new) text.now status result }
+    ensures wants { WantsLast (stream S.taken S.faults S.wants sink.old sink.new) result }
 {
     match sink.put(text) {
         Ok(()) => status,

@@ -2,13 +2,13 @@ ghost use Rattle.std.specs.Prelude.{map, string_bytes};
 ghost use Rattle.systole_top.specs.Causes.{Tells};
 ghost use Rattle.systole_top.specs.Promises.{Promises, call};
 ghost use Rattle.systole_top.specs.Shape.{shape};
-ghost use Rattle.systole_top.specs.Sides.{stream};
+ghost use Rattle.systole_top.specs.Sides.{WantsLastOfBoth, stream};
 
 use crate::command::answer_command;
 use crate::say::{say, say_usage};
 use crate::status::Status;
 use crate::words::read_words;
-use accept::accepted_or_refused;
+use accept::{accepted_or_refused, images_do_as_they_say, some_image};
 use std::alloc::Global;
 use sys_outside::{Shelf, Sink};
 
@@ -25,13 +25,16 @@ pub fn systole<S: Shelf, O: Sink, E: Sink>(
 ) -> Status
     ensures { Promises (call (shape (map string_bytes words.now))
         (S.held shelf.old) (S.faults shelf.old) (S.faults shelf.new)
-        (stream (O.taken out.old) (O.taken out.new) (O.faults out.old) (O.faults out.new))
-        (stream (E.taken err.old) (E.taken err.new) (E.faults err.old) (E.faults err.new)) result) }
+        (stream O.taken O.faults O.wants out.old out.new)
+        (stream E.taken E.faults E.wants err.old err.new) result) }
 {
     accepted_or_refused();
+    some_image();
+    images_do_as_they_say();
     tell(alloc, words, shelf, out, err)
 }
 
+#[tactic(auto, using(crate::proofs::Reaching::alone, crate::proofs::Reaching::never))]
 fn tell<S: Shelf, O: Sink, E: Sink>(
     alloc: Global,
     words: &[String],
@@ -39,9 +42,14 @@ fn tell<S: Shelf, O: Sink, E: Sink>(
     out: &mut O,
     err: &mut E,
 ) -> Status
-    ensures { Tells (shape (map string_bytes words.now)) (S.held shelf.old) (S.faults shelf.old) (S.faults shelf.new)
-        (stream (O.taken out.old) (O.taken out.new) (O.faults out.old) (O.faults out.new))
-        (stream (E.taken err.old) (E.taken err.new) (E.faults err.old) (E.faults err.new)) result }
+    ensures tells { Tells (shape (map string_bytes words.now))
+        (S.held shelf.old) (S.faults shelf.old) (S.faults shelf.new)
+        (stream O.taken O.faults O.wants out.old out.new)
+        (stream E.taken E.faults E.wants err.old err.new) result }
+    ensures out_wants { WantsLastOfBoth (stream O.taken O.faults O.wants out.old out.new)
+        (stream E.taken E.faults E.wants err.old err.new) result }
+    ensures err_wants { WantsLastOfBoth (stream E.taken E.faults E.wants err.old err.new)
+        (stream O.taken O.faults O.wants out.old out.new) result }
 {
     match read_words(words) {
         None => say_usage(err),

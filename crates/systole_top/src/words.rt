@@ -7,6 +7,7 @@ ghost use Rattle.systole_top.specs.Shape.{shape, seen};
 pub enum Command<'a> {
     Check(&'a str),
     Explain(&'a str),
+    Compile(&'a str),
 }
 
 /// Reads the words of a command line; `None` where they are no command.
@@ -28,6 +29,7 @@ fn read_pair<'a>(command: &str, file: &'a str) -> Option<Command<'a>>
     match command {
         "check" => Some(Command::Check(file)),
         "explain" => Some(Command::Explain(file)),
+        "compile" => Some(Command::Compile(file)),
         _ => None,
     }
 }

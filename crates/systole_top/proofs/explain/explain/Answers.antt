@@ -2,4 +2,4 @@ use Rattle.systole_top.proofs.Trees.{step_shows}
 use Rattle.systole_top.proofs.explain.explain.Goals as goal
 
 pub returns : goal.returns
-returns g c = step_shows _ c.in_ok-judgement.ensures c.explain_reply.ensures
+returns g c = step_shows _ c.in_ok-judgement.ensures.judged c.explain_reply.ensures

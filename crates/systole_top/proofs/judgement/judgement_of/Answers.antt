@@ -4,5 +4,5 @@ use Rattle.refusals.specs.declared.refusal.Refusal.TheVariants.{LongSource}
 use Rattle.systole_top.proofs.judgement.judgement_of.Goals as goal
 
 -- a file that is longer than a source has one judgement
-pub returns-in-None : goal.returns-in-None
-returns-in-None c = rw c.in-None.is (inr (Refused LongSource, record { holds = refl; only = λ y is. sym is }, inl refl))
+pub returns-in-None-clause-shows : goal.returns-in-None-clause-shows
+returns-in-None-clause-shows c = rw c.in-None.is (inr (Refused LongSource, record { holds = refl; only = λ y is. sym is }, inl refl))
