@@ -1,15 +1,15 @@
 use cell_lexer::tokens;
 use cell_parser::{ParseError, parse};
-use cell_tree::{LinkDecl, Place, Source, print};
+use cell_tree::print;
 use std::alloc::Global;
 use std::test::Fail;
-use sys_base::{Dir, Items};
 
 /// Each form of declaration and of statement, in canonical form.
 #[test]
 fn prints_canonical_text_as_it_stands(rt: HostRuntime) -> Result<(), Fail> {
     let text = b"array 1 x 2;
 queues 1;
+buffer 3;
 link 0.0 E queues 2;
 message A from 0.0 to 0.1 route S E N label 9;
 message B from 0.0 to 0.1;
@@ -37,6 +37,8 @@ cell 0.1 {
     let found = tokens(rt.alloc(), text)?;
     let source = parse(rt.alloc(), text, &found)?;
     assert_eq!(rt; source.queues_line, 2);
+    assert_eq!(rt; source.buffer, 3);
+    assert_eq!(rt; source.buffer_line, 3);
     let printed = print(rt.alloc(), &source)?;
     assert_eq!(rt; printed.as_slice(), text.as_slice());
     Ok(())
@@ -107,36 +109,33 @@ fn prints_other_text_in_canonical_form(rt: HostRuntime) -> Result<(), Fail> {
     Ok(())
 }
 
-/// No text that can be read has this line yet.
+/// The line of a buffer of 0 is read, and not printed.
 #[test]
-fn prints_a_buffer(rt: HostRuntime) -> Result<(), Fail> {
-    let link = LinkDecl {
-        place: Place { row: 0, col: 0 },
-        dir: Dir::E,
-        queues: 2,
-        line: 4,
-    };
-    let source = Source {
-        rows: 1,
-        cols: 2,
-        array_line: 1,
-        queues: 1,
-        queues_line: 2,
-        buffer: 3,
-        buffer_line: 3,
-        links: Items::from_slice(rt.alloc(), &[link])?,
-        messages: Items::new(rt.alloc()),
-        cells: Items::new(rt.alloc()),
-    };
-    let text = print(rt.alloc(), &source)?;
-    let wanted = b"array 1 x 2;\nqueues 1;\nbuffer 3;\nlink 0.0 E queues 2;\n";
-    assert_eq!(rt; text.as_slice(), wanted.as_slice());
+fn prints_a_buffer_where_it_is_not_0(rt: HostRuntime) -> Result<(), Fail> {
+    let table: [(&[u8], &[u8]); 3] = [
+        (
+            b"array 1 x 2; queues 1;\nbuffer 9223372036854775807; link 0.0 E queues 2;",
+            b"array 1 x 2;\nqueues 1;\nbuffer 9223372036854775807;\nlink 0.0 E queues 2;\n",
+        ),
+        (
+            b"array 1 x 2; queues 1; buffer 0;",
+            b"array 1 x 2;\nqueues 1;\n",
+        ),
+        (b"array 1 x 2; queues 1;", b"array 1 x 2;\nqueues 1;\n"),
+    ];
+    for (text, wanted) in table {
+        assert!(rt; text.len() < 100);
+        let found = tokens(rt.alloc(), text)?;
+        let source = parse(rt.alloc(), text, &found)?;
+        let printed = print(rt.alloc(), &source)?;
+        assert_eq!(rt; printed.as_slice(), wanted);
+    }
     Ok(())
 }
 
 #[test]
 fn refuses_the_first_wrong_token(rt: HostRuntime) -> Result<(), Fail> {
-    let table: [(&[u8], ParseError); 9] = [
+    let table: [(&[u8], ParseError); 12] = [
         (b"", ParseError::Unexpected { line: 1, column: 1 }),
         (
             b"array 1 x 1; queues 1; cell 0.0 { emit",
@@ -159,6 +158,21 @@ fn refuses_the_first_wrong_token(rt: HostRuntime) -> Result<(), Fail> {
         (
             b"array 1 x 2;\nqueues 1",
             ParseError::Unexpected { line: 2, column: 9 },
+        ),
+        (
+            b"array 1 x 1; buffer 3; queues 1;",
+            ParseError::Unexpected {
+                line: 1,
+                column: 14,
+            },
+        ),
+        (
+            b"array 1 x 1; queues 1; buffer 3;\nbuffer 3;",
+            ParseError::Unexpected { line: 2, column: 1 },
+        ),
+        (
+            b"array 1 x 1; queues 1;\nbuffer ;",
+            ParseError::Unexpected { line: 2, column: 8 },
         ),
         (
             b"array 1 x 2;\nqueues 1;\ncell 0.0 { x = ; }",

@@ -223,13 +223,13 @@ fn programs(rt: HostRuntime) -> Result<(), Fail> {
     expect(
         &rt,
         Refusal::CellSteps,
-        "E60 the cells take more than 4194304 steps",
+        "E60 the cells take more than 16777216 steps",
     )?;
-    let bound = 4194305;
+    let bound = 16777217;
     expect(
         &rt,
         Refusal::Bound { bound },
-        "E61 the bound 4194305 is more than 4194304",
+        "E61 the bound 16777217 is more than 16777216",
     )
 }
 

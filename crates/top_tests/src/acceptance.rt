@@ -1,4 +1,5 @@
 use accept::{AcceptError, Built, accepted_or_refused, build, one_first_refusal};
+use cell_code::Image;
 use comm_sequence::Comm::{self, Read, Write};
 use refusals::{Refusal, text};
 use std::alloc::{AllocGlobal, Global};
@@ -23,6 +24,15 @@ fn accepted(alloc: Global, source: &[u8]) -> Result<Built, Fail> {
     }
 }
 
+/// Whether the messages of an image have these labels.
+fn are_labels(image: &Image, labels: &[u16]) -> bool {
+    let messages = image.messages.iter();
+    image.messages.len() == labels.len()
+        && messages
+            .zip(labels)
+            .all(|(message, label)| message.label == *label)
+}
+
 /// The text is refused with this line.
 fn expect<R: Abort + AllocGlobal>(rt: &R, source: &[u8], line: &str) -> Result<(), Fail> {
     let found = text(rt.alloc(), &refusal(rt.alloc(), source)?)?;
@@ -34,11 +44,11 @@ fn expect<R: Abort + AllocGlobal>(rt: &R, source: &[u8], line: &str) -> Result<(
 fn costly(alloc: Global, last: &[u8]) -> Result<Vec<u8>, Fail> {
     let mut source = Vec::new(alloc);
     source.extend_from_slice(b"array 1 x 1; queues 1; cell 0.0 { var x; for i 65535 { ")?;
-    for _ in 0..30 {
+    for _ in 0..126 {
         source.extend_from_slice(b"x = 0; ")?;
     }
     source.extend_from_slice(b"x = -x; } ")?;
-    for _ in 0..29 {
+    for _ in 0..125 {
         source.extend_from_slice(b"x = 0; ")?;
     }
     source.extend_from_slice(last)?;
@@ -50,8 +60,9 @@ fn costly(alloc: Global, last: &[u8]) -> Result<Vec<u8>, Fail> {
 fn accepts_programs(rt: HostRuntime) -> Result<(), Fail> {
     one_first_refusal();
     accepted_or_refused();
-    let rows: [(&[u8], &[u16], u32); 6] = [
+    let rows: [(&[u8], &[u16], u32); 8] = [
         (b"array 1 x 1; queues 1;", &[], 0),
+        (b"array 1 x 1; queues 1; buffer 3;", &[], 0),
         (b"array 16 x 16; queues 32;", &[], 0),
         (
             b"array 1 x 2; queues 1; message A from 0.0 to 0.1; message Z from 0.1 to 0.0;\n\
@@ -82,18 +93,25 @@ fn accepts_programs(rt: HostRuntime) -> Result<(), Fail> {
             &[0, 0, 0, 0],
             133,
         ),
+        (
+            b"array 16 x 16; queues 1; message A from 0.0 to 15.15;\n\
+            cell 0.0 { for i 65535 { write A 1; write A 1; } }\n\
+            cell 15.15 { var x; for i 65535 { read A x; read A x; } }",
+            &[0],
+            4325342,
+        ),
     ];
     for (source, labels, bound) in rows {
         let built = accepted(rt.alloc(), source)?;
-        assert_eq!(rt; built.labels.as_slice(), labels);
-        assert_eq!(rt; built.bound, bound);
+        assert!(rt; are_labels(&built.image, labels));
+        assert_eq!(rt; built.image.bound, bound);
     }
     Ok(())
 }
 
 #[test]
 fn crosses_operations_off_in_order(rt: HostRuntime) -> Result<(), Fail> {
-    let rows: [(&[u8], &[Comm]); 3] = [
+    let rows: [(&[u8], &[Comm]); 4] = [
         (
             b"array 1 x 2; queues 1; message A from 0.0 to 0.1; cell 0.0 { write A 7; } cell 0.1 { var x; read A x; emit x; }",
             &[Write(0), Read(0)],
@@ -108,6 +126,11 @@ fn crosses_operations_off_in_order(rt: HostRuntime) -> Result<(), Fail> {
             b"array 1 x 2; queues 1; link 0.0 E queues 2; message A from 0.0 to 0.1; message B from 0.0 to 0.1;\n\
             cell 0.0 { write A 1; write B 2; write A 3; } cell 0.1 { var x; read A x; read B x; read A x; }",
             &[Write(0), Read(0), Write(1), Read(1), Write(0), Read(0)],
+        ),
+        (
+            b"array 1 x 2; queues 2; buffer 2; message A from 0.0 to 0.1; message B from 0.0 to 0.1;\n\
+            cell 0.0 { write A 1; write A 2; write B 3; } cell 0.1 { var x; read B x; read A x; read A x; }",
+            &[Write(0), Write(0), Write(1), Read(1), Read(0), Read(0)],
         ),
     ];
     for (source, order) in rows {
@@ -129,14 +152,14 @@ fn refuses_at_the_limits(rt: HostRuntime) -> Result<(), Fail> {
     )?;
     expect(&rt, &[b'{'; 18], "E07 line 1: more than 17 braces are open")?;
     let dear = costly(alloc, b"x = -x;")?;
-    expect(&rt, &dear, "E60 the cells take more than 4194304 steps")?;
+    expect(&rt, &dear, "E60 the cells take more than 16777216 steps")?;
     accepted(alloc, &costly(alloc, b"x = 0;")?)?;
     Ok(())
 }
 
 #[test]
 fn refuses_wrong_sources(rt: HostRuntime) -> Result<(), Fail> {
-    let rows: [(&[u8], &str); 23] = [
+    let rows: [(&[u8], &str); 25] = [
         (b"@", "E01 byte at 0 is not part of the language"),
         (b"", "E02 line 1 column 1: not expected here"),
         (
@@ -159,6 +182,10 @@ fn refuses_wrong_sources(rt: HostRuntime) -> Result<(), Fail> {
         ),
         (b"array 1 x 1; queues 0;", "E10 line 1: queues are 1 to 32"),
         (b"array 1 x 1; queues 33;", "E10 line 1: queues are 1 to 32"),
+        (
+            b"array 1 x 1; queues 1;\nbuffer 65;",
+            "E10 line 2: the buffer is 0 to 64",
+        ),
         (
             b"array 1 x 2; queues 1; message A from 0.0 to 0.1; message A from 0.0 to 0.1;",
             "E11 line 1: A stands twice",
@@ -209,10 +236,17 @@ fn refuses_wrong_sources(rt: HostRuntime) -> Result<(), Fail> {
             "E20 line 1: the route of A uses link 0.0E twice",
         ),
         (
+            b"array 1 x 2; queues 2; buffer 1; message A from 0.0 to 0.1; message B from 0.0 to 0.1;\n\
+            cell 0.0 { write A 1; write A 2; write B 3; } cell 0.1 { var x; read B x; read A x; read A x; }",
+            "E30 crossing-off leaves 5 operations",
+        ),
+        (
             b"array 16 x 16; queues 1; message A from 0.0 to 15.15;\n\
-            cell 0.0 { for i 65535 { write A 1; write A 1; } }\n\
-            cell 15.15 { var x; for i 65535 { read A x; read A x; } }",
-            "E61 the bound 4325342 is more than 4194304",
+            cell 0.0 { for i 65535 {\n\
+            write A 1; write A 1; write A 1; write A 1; write A 1; write A 1; write A 1; write A 1; } }\n\
+            cell 15.15 { var x; for i 65535 {\n\
+            read A x; read A x; read A x; read A x; read A x; read A x; read A x; read A x; } }",
+            "E61 the bound 16908062 is more than 16777216",
         ),
     ];
     for (source, line) in rows {
@@ -235,7 +269,7 @@ fn declared(alloc: Global, count: u64, label: u64) -> Result<Vec<u8>, Fail> {
 fn counts_messages_and_labels(rt: HostRuntime) -> Result<(), Fail> {
     let alloc = rt.alloc();
     let most = accepted(alloc, &declared(alloc, 512, 65535)?)?;
-    assert_eq!(rt; most.labels.len(), 512);
+    assert_eq!(rt; most.image.messages.len(), 512);
     expect(
         &rt,
         &declared(alloc, 513, 65535)?,

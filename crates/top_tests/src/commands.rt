@@ -14,12 +14,15 @@ fn words(alloc: Global, texts: &[&str]) -> Result<Vec<String>, Fail> {
 #[test]
 fn words_with_no_shape_are_usage(rt: HostRuntime) -> Result<(), Fail> {
     let alloc = rt.alloc();
-    let lines: [&[&str]; 7] = [
+    let lines: [&[&str]; 10] = [
         &[],
         &["check"],
         &["check", ""],
         &["explain", ""],
         &["run", "F"],
+        &["compile"],
+        &["compile", ""],
+        &["compile", "F", "G"],
         &["check", "F", "G"],
         &["explain", "F", "G"],
     ];
@@ -55,7 +58,7 @@ fn miss(
 #[test]
 fn missing_file_is_a_read_fault(rt: HostRuntime) -> Result<(), Fail> {
     let alloc = rt.alloc();
-    for command in ["check", "explain"] {
+    for command in ["check", "explain", "compile"] {
         let (status, out, err) = miss(alloc, command, Vec::new(alloc))?;
         assert_eq!(rt; status, Status::ReadFault);
         assert_eq!(rt; out.bytes(), b"".as_slice());
@@ -138,7 +141,7 @@ const REFUSED: [(&[u8], &str); 6] = [
     (SHARED, "E50 link 0.0E label 0 needs 2 queues and has 1\n"),
     (
         b"array 1 x 1; queues 1; cell 0.0 { for i 65535 { for j 65535 { } } }",
-        "E60 the cells take more than 4194304 steps\n",
+        "E60 the cells take more than 16777216 steps\n",
     ),
     (
         b"{{{{{{{{{{{{{{{{{{ @",
@@ -241,5 +244,55 @@ fn failing_put_takes_a_part_of_the_explanation(rt: HostRuntime) -> Result<(), Fa
     assert_eq!(rt; status, Status::WriteFault);
     assert_eq!(rt; out.bytes(), b"E01 ".as_slice());
     assert_eq!(rt; err.bytes(), b"".as_slice());
+    Ok(())
+}
+
+// What `compile F` says of a source.
+fn compiled(alloc: Global, source: &[u8]) -> Result<(Status, SureSink, SureSink), Fail> {
+    let mut files = Vec::new(alloc);
+    files.push((
+        String::from_str(alloc, "F")?,
+        Vec::from_slice(alloc, source)?,
+    ))?;
+    let mut shelf = SureShelf::new(files);
+    let (mut out, mut err) = (SureSink::new(alloc), SureSink::new(alloc));
+    let status = systole(
+        alloc,
+        &words(alloc, &["compile", "F"])?,
+        &mut shelf,
+        &mut out,
+        &mut err,
+    );
+    Ok((status, out, err))
+}
+
+#[test]
+fn compiles_a_pipe(rt: HostRuntime) -> Result<(), Fail> {
+    let (status, out, err) = compiled(
+        rt.alloc(),
+        b"array 1 x 2; queues 1; message A from 0.0 to 0.1; cell 0.0 { write A 7; } cell 0.1 { var x; read A x; emit x; }",
+    )?;
+    assert_eq!(rt; status, Status::Done);
+    assert_eq!(rt;
+        out.bytes(),
+        b"systole 2\narray 1 x 2\nbuffer 0\nbound 6\n\
+        message 0 from 0 to 1 length 1 label 0 route 1\nlink 1 queues 1 groups 0:0\n\
+        cell 0 takes 0 emits 0 words 0 counters 0 stack 1\npush 7\nwrite 0\nhalt\n\
+        cell 1 takes 0 emits 1 words 1 counters 0 stack 1\nread 0 0\nload 0\nemit\nhalt\nend\n"
+            .as_slice()
+    );
+    assert_eq!(rt; err.bytes(), b"".as_slice());
+    Ok(())
+}
+
+#[test]
+fn refused_source_is_not_compiled(rt: HostRuntime) -> Result<(), Fail> {
+    let (status, out, err) = compiled(rt.alloc(), b"@")?;
+    assert_eq!(rt; status, Status::Refused);
+    assert_eq!(rt; out.bytes(), b"".as_slice());
+    assert_eq!(rt;
+        err.bytes(),
+        b"E01 byte at 0 is not part of the language\n".as_slice()
+    );
     Ok(())
 }
