@@ -18,12 +18,11 @@ syntax match systoleDelimiter '[{}()\[\];.]'
 syntax match systoleComment '#.*$' contains=systoleTodo,@Spell
 syntax keyword systoleTodo contained TODO FIXME
 
-syntax keyword systoleDeclaration array queues link message cell var
+syntax keyword systoleDeclaration array queues buffer link message cell var
 syntax keyword systoleMessagePart from to route label
 syntax keyword systoleStatement write read take emit
 syntax keyword systoleRepeat for
 syntax keyword systoleConditional if else
-syntax keyword systoleReserved buffer
 
 " Directions: the letters behind `route`, and the one behind the place of a link. Elsewhere they are names.
 syntax match systoleDirection '\%(\<route\%(\_s\+[NESW]\)*\_s\+\)\@<=[NESW]\>'
@@ -40,7 +39,6 @@ highlight default link systoleMessagePart Label
 highlight default link systoleStatement Statement
 highlight default link systoleRepeat Repeat
 highlight default link systoleConditional Conditional
-highlight default link systoleReserved Error
 highlight default link systoleDirection Constant
 
 let b:current_syntax = 'systole'
