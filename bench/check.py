@@ -80,6 +80,13 @@ def one_name(size):
     return filled(size, HEAD + f"cell 0.0 {{\nvar {name};\n", lambda k: f"emit {name};\n", "}\n")
 
 
+def deep_loop(_size):
+    """Two cells that exchange a word 655,350 times, in loops: the source is short whatever the size."""
+    body = "for i 65535 {{ for j 10 {{ {} }} }}"
+    message = HEAD + "message A from 0.0 to 0.1;\n"
+    return message + f"cell 0.0 {{ {body.format('write A i;')} }}\ncell 0.1 {{ var x; {body.format('read A x;')} }}\n"
+
+
 def least_time(program, path):
     """Returns the least time of five runs, and what the last one said."""
     times = []
@@ -97,7 +104,7 @@ def main():
     program = os.path.abspath(sys.argv[1]) if len(sys.argv) > 1 else os.path.join(here, "..", "out", "systole")
     with tempfile.TemporaryDirectory() as room:
         path = os.path.join(room, "source.sys")
-        for kind in (exchange, statements, sums, dense_sums, parentheses, blocks, comments, one_name):
+        for kind in (exchange, statements, sums, dense_sums, parentheses, blocks, comments, one_name, deep_loop):
             for size in (GREATEST // 4, GREATEST // 2, GREATEST):
                 with open(path, "w", encoding="ascii") as file:
                     file.write(kind(size))
