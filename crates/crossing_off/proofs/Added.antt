@@ -1,10 +1,11 @@
 -- What waits once operations are added.
-use Rattle.std.proofs.Common.{◌≡◌, ℕ, ◌+◌, ◌<◌, ◌≤◌, ◌⊎◌, inl, inr, List, Option, None, Some, sym, ◌∙◌, ap, subst, refl, ⊎_elim, arith}
+use Rattle.std.proofs.Common.{◌≡◌, ℕ, ◌+◌, ◌<◌, ◌≤◌, ◌⊎◌, Option, None, Some, sym, ◌∙◌, ap, subst, refl, ⊎_elim, arith}
 use Rattle.comm_sequence.specs.Sequences.{message_of}
 use Rattle.comm_sequence.specs.declared.comm.Comm.{Comm}
 use Rattle.comm_sequence.specs.declared.comm.Comm.TheVariants.{Write, Read}
 use Rattle.crossing_off.specs.declared.waiting.Waiting.{Waiting}
-use Rattle.crossing_off.specs.bodies.Waiting.{HasAdded, HasNoted, IsIn, Waits, waiting_len}
+use Rattle.crossing_off.specs.bodies.Waiting.{HasAdded, HasNoted, Waits, waiting_len}
+use Rattle.crossing_off.specs.bodies.WaitingSet.{IsIn}
 
 -- what waited still waits
 pub added_keeps : (old new : Waiting) (m : ℕ) (x : Comm) → HasAdded old new m → Waits old x → Waits new x

@@ -1,12 +1,11 @@
 -- The counts of crossed operations.
-use Rattle.std.proofs.Common.{◌≡◌, ◌≢◌, ◌↔◌, ℕ, ◌+◌, ◌-◌, ◌<◌, ◌≤◌, max, cond, nat_eq, List, [], ◌∷◌, ◌++◌, length, set, slice_index, sym, ◌∙◌, ap, subst, ⊎_elim, arith}
+use Rattle.std.proofs.Common.{◌≡◌, ◌≢◌, ℕ, ◌+◌, ◌-◌, ◌<◌, ◌≤◌, cond, nat_eq, List, [], ◌∷◌, ◌++◌, length, set, slice_index, sym, ◌∙◌, ap, subst, ⊎_elim, arith}
 use Rattle.std.proofs.lemmas.Bool.{cases_eq, ne_eqb}
 use Rattle.std.proofs.lemmas.List.{length-set, get_or-set_same, get_or-set_other}
 use Rattle.comm_sequence.specs.BufferedOrder.{occurrences}
 use Rattle.comm_sequence.specs.Sequences.{Sequences}
 use Rattle.comm_sequence.specs.declared.comm.Comm.{Comm}
 use Rattle.comm_sequence.specs.declared.comm.Comm.TheVariants.{Write, Read}
-use Rattle.crossing_off.specs.Greedy.{reads_of}
 use Rattle.crossing_off.specs.bodies.Worklist.{AreCounts}
 use Rattle.crossing_off.proofs.Counts.{occurs_push, push_itself}
 

@@ -1,14 +1,15 @@
 -- The cells of operations.
-use Rattle.std.proofs.Common.{◌≡◌, ◌≢◌, ℕ, ◌+◌, ◌<◌, ◌∙◌, false, List, [], Option, None, Some, All, length, drop, nat_eq, Contains, slice_get, slice_index_or, sym, ap, refl, arith}
+use Rattle.std.proofs.Common.{◌≡◌, ◌≢◌, ℕ, ◌+◌, ◌<◌, ◌∙◌, false, List, [], Option, None, Some, All, length, drop, nat_eq, Contains, IfSome, slice_get, slice_index_or, sym, ap, refl, arith}
 use Rattle.std.specs.Option.{option_map, option_map_or}
-use Rattle.std.proofs.lemmas.List.Elements.{All-contains, All-get_or}
+use Rattle.std.proofs.lemmas.List.Elements.{All-contains, All-drop, All-get_or, All-weaker}
 use Rattle.std.proofs.lemmas.List.{length-drop, get_or-drop}
 use Rattle.std.proofs.lemmas.Option.{slice_get_within, get_or_from_slice_get}
 use Rattle.comm_sequence.specs.BufferedOrder.{is_of}
 use Rattle.comm_sequence.specs.Sequences.{Sequences, IsSequences, message_of}
 use Rattle.comm_sequence.specs.declared.comm.Comm.{Comm}
 use Rattle.comm_sequence.specs.declared.comm.Comm.TheVariants.{Write, Read}
-use Rattle.crossing_off.specs.Greedy.{cell_of, front}
+use Rattle.crossing_off.specs.Greedy.{cell_of, front, made, rest}
+use Rattle.crossing_off.specs.bodies.Waiting.{MayWait}
 use Rattle.crossing_off.proofs.Lists.{is_there, Contains-from_slice_get}
 
 -- a message goes from one cell to another one
@@ -92,6 +93,21 @@ front_known s crossed c e sound l h =
     let list : List Comm = slice_index_or s.lists c [] in
     let known = All-get_or (λ list. All (λ e. message_of e < length s.ends) list) s.lists c [] l sound.known in
     All-contains (λ e. message_of e < length s.ends) list e known (first_contains _ list e h)
+
+-- the operations of a cell's list may wait
+list_may_wait : (s : Sequences) (c : ℕ) → IsSequences s → c < length s.lists → All MayWait (slice_index_or s.lists c [])
+list_may_wait s c sound l =
+    All-weaker (λ e. message_of e < length s.ends) MayWait (λ e known. omega (arith, known, sound.messages)) (slice_index_or s.lists c [])
+    (All-get_or (λ list. All (λ e. message_of e < length s.ends) list) s.lists c [] l sound.known)
+
+-- so may those that are left of it
+pub rest_may_wait : (s : Sequences) (crossed : List Comm) (c : ℕ) → IsSequences s → c < length s.lists → All MayWait (rest s crossed c)
+rest_may_wait s crossed c sound l = All-drop MayWait (length (made s crossed c)) (slice_index_or s.lists c []) (list_may_wait s c sound l)
+
+-- and so may the first one that is left
+pub first_may_wait : (n : ℕ) (list : List Comm) (o : Option Comm) → All MayWait list → o ≡ slice_get (drop n list) 0 → IfSome o MayWait
+first_may_wait n list None all is = tt
+first_may_wait n list (Some e) all is = All-contains MayWait list e all (first_contains n list e (sym is))
 
 -- an operation whose cell is known is on a message
 pub cell_known : (s : Sequences) (e : Comm) (c : ℕ) → cell_of s.ends e ≡ Some c → message_of e < length s.ends

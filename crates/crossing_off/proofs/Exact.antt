@@ -1,8 +1,8 @@
 -- Where the rule is stuck with something left, there is no order for the buffer of any kind: the first operation of
 -- such an order that is not yet crossed often enough may be crossed next. The same holds of any operations that may
 -- be crossed one after another, so all choices leave the same.
-use Rattle.std.proofs.Common.{◌≡◌, ◌≢◌, ℕ, zero, suc, ◌+◌, ◌<◌, ◌≤◌, max, Bool, true, false, cond, nat_eq, List, [], ◌∷◌, ◌++◌, Option, None, Some, All, EachIndex, filter, length, take, drop, get_or, slice_get, slice_index_or, sum_by, sym, ◌∙◌, ap, subst, refl, ⊎_elim, arith}
-use Rattle.std.specs.Option.{option_map, option_map_or}
+use Rattle.std.proofs.Common.{◌≡◌, ◌≢◌, ℕ, zero, suc, ◌+◌, ◌<◌, ◌≤◌, Bool, true, false, cond, nat_eq, List, [], ◌∷◌, ◌++◌, Some, All, EachIndex, length, take, drop, get_or, slice_get, slice_index_or, sym, ◌∙◌, ap, subst, refl, ⊎_elim, arith}
+use Rattle.std.specs.Option.{option_map_or}
 use Rattle.std.proofs.lemmas.Bool.{cases_Bool, cases_lt, eq-eqb}
 use Rattle.std.proofs.lemmas.List.{append-nil, append_assoc, length-append, take_all}
 use Rattle.std.proofs.lemmas.List.Elements.{All-contains, All-from_get_or, Contains-append_right, filter-append}
@@ -15,10 +15,10 @@ use Rattle.comm_sequence.specs.declared.comm.Comm.{Comm}
 use Rattle.comm_sequence.specs.declared.comm.Comm.TheVariants.{Write, Read}
 use Rattle.crossing_off.specs.Greedy.{front, left, made, reads_of, rest, IsFront, IsStuck, IsWanted, MayAll, MayCross}
 use Rattle.crossing_off.proofs.Counts.{meets, no_longer, occurs_append, occurs_cons, occurs_itself, occurs_kept, occurs_push, one_if_same, push_itself, same_equal}
-use Rattle.crossing_off.proofs.Ends.{HasCell, HasEnds, cells_differ, has_cell, has_ends}
+use Rattle.crossing_off.proofs.Ends.{HasEnds, cells_differ, has_cell, has_ends}
 use Rattle.crossing_off.proofs.Lists.{from_first}
-use Rattle.crossing_off.proofs.Runs.{Holds, along, first_of, holds_all, holds_at, take_next}
-use Rattle.crossing_off.proofs.Steps.{IsReached, StandsFirst, is_front, other_cell, own_cell, stands_first}
+use Rattle.crossing_off.proofs.Runs.{Holds, along, holds_all, holds_at}
+use Rattle.crossing_off.proofs.Steps.{IsReached, is_front, other_cell, own_cell, stands_first}
 
 -- two numbers after one test
 cond_le : (b : Bool) (x y : ℕ) → x ≤ y → cond b x 0 ≤ cond b y 0

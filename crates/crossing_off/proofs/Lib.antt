@@ -16,6 +16,7 @@ pub mod Start
 pub mod Steps
 pub mod Tests
 pub mod Turn
+pub mod WaitingSets
 pub mod Walking
 pub mod WhatIsLeft
 pub mod Whole

@@ -7,7 +7,7 @@ use Rattle.comm_sequence.specs.BufferedOrder.{occurrences}
 use Rattle.comm_sequence.specs.Sequences.{Sequences, IsSequences, message_of}
 use Rattle.comm_sequence.specs.declared.comm.Comm.{Comm}
 use Rattle.comm_sequence.specs.declared.comm.Comm.TheVariants.{Write, Read}
-use Rattle.crossing_off.specs.Greedy.{reads_of, IsFront, IsWanted, MayAll, MayCross}
+use Rattle.crossing_off.specs.Greedy.{reads_of, IsFront, MayAll, MayCross}
 use Rattle.crossing_off.proofs.Counts.{one_if_same, occurs_push, push_itself}
 use Rattle.crossing_off.proofs.Ends.{cell_known}
 use Rattle.crossing_off.proofs.Steps.{IsReached, StandsFirst, front_stays, is_front, reached_more, stands_first}

@@ -1,9 +1,8 @@
 -- The state of crossing-off at the start.
-use Rattle.std.proofs.Common.{◌≡◌, ℕ, ◌+◌, ◌-◌, ◌<◌, ◌≤◌, List, [], ◌∷◌, ◌++◌, Option, None, Some, length, map, slice_get, slice_index, sym, ◌∙◌, ap, subst, refl, ⊎_elim, arith}
+use Rattle.std.proofs.Common.{◌≡◌, ℕ, ◌+◌, ◌<◌, ◌≤◌, List, [], ◌∷◌, ◌++◌, Option, Some, length, map, slice_get, slice_index, sym, ◌∙◌, ap, subst, refl, ⊎_elim, arith}
 use Rattle.std.proofs.lemmas.Bool.{cases_eq}
 use Rattle.std.proofs.lemmas.List.FromFn.{map-range_with_len_more}
 use Rattle.cell_types.specs.Groups.{below}
-use Rattle.comm_sequence.specs.BufferedOrder.{occurrences}
 use Rattle.comm_sequence.specs.Sequences.{Sequences, IsSequences, message_of}
 use Rattle.comm_sequence.specs.declared.comm.Comm.{Comm}
 use Rattle.comm_sequence.specs.declared.comm.Comm.TheVariants.{Write, Read}

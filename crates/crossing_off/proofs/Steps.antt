@@ -1,10 +1,10 @@
 -- What one more operation makes of the lists.
-use Rattle.std.proofs.Common.{◌≡◌, ◌≢◌, ℕ, ◌+◌, ◌<◌, Bool, true, false, cond, nat_eq, List, [], ◌∷◌, ◌++◌, Option, Some, filter, length, drop, slice_get, slice_index_or, sym, ◌∙◌, ap, refl, ⊎_elim, arith}
-use Rattle.std.proofs.lemmas.Bool.{cases_Bool, cases_eq, eq-eqb, ne_eqb}
+use Rattle.std.proofs.Common.{◌≡◌, ◌≢◌, ℕ, true, false, cond, List, [], ◌∷◌, ◌++◌, Some, length, drop, slice_get, slice_index_or, sym, ◌∙◌, ap, refl, ⊎_elim}
+use Rattle.std.proofs.lemmas.Bool.{cases_eq, eq-eqb, ne_eqb}
 use Rattle.std.proofs.lemmas.List.{append-nil, length-append, append_assoc}
 use Rattle.std.proofs.lemmas.List.Elements.{filter-append}
 use Rattle.comm_sequence.specs.BufferedOrder.{is_of}
-use Rattle.comm_sequence.specs.Sequences.{Sequences, IsSequences, message_of}
+use Rattle.comm_sequence.specs.Sequences.{Sequences, IsSequences}
 use Rattle.comm_sequence.specs.declared.comm.Comm.{Comm}
 use Rattle.crossing_off.specs.Greedy.{cell_of, front, made, rest, IsFront}
 use Rattle.crossing_off.proofs.Ends.{HasCell, has_cell, cell_known}

@@ -1,8 +1,7 @@
 -- What the tests of crossing-off decide.
-use Rattle.std.proofs.Common.{◌≡◌, ◌↔◌, ℕ, zero, suc, ◌+◌, ◌-◌, ◌<◌, ◌≤◌, max, Bool, IsTrue, List, Option, Some, get_or, length, nat_lt, slice_index, sym, ◌∙◌, ap, subst, arith}
+use Rattle.std.proofs.Common.{◌≡◌, ◌↔◌, ℕ, ◌<◌, ◌≤◌, max, Bool, IsTrue, List, Some, get_or, length, nat_lt, slice_index, sym, ◌∙◌, ap, subst, arith}
 use Rattle.std.proofs.lemmas.Bool.{lt-ltb, ltb-true}
 use Rattle.std.proofs.lemmas.List.{get_or_default}
-use Rattle.comm_sequence.specs.BufferedOrder.{occurrences}
 use Rattle.comm_sequence.specs.Sequences.{Sequences, message_of}
 use Rattle.comm_sequence.specs.declared.comm.Comm.{Comm}
 use Rattle.comm_sequence.specs.declared.comm.Comm.TheVariants.{Write, Read}

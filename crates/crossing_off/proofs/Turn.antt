@@ -1,6 +1,5 @@
 -- What the state of crossing-off keeps from turn to turn.
-use Rattle.std.proofs.Common.{◌≡◌, ◌≢◌, ℕ, zero, suc, ◌+◌, ◌-◌, ◌*◌, ◌<◌, ◌≤◌, ◌⊎◌, inl, inr, max, cond, nat_eq, List, [], ◌∷◌, ◌++◌, Option, None, Some, length, get_or, set, take, drop, sum_by, slice_get, slice_index, sym, ◌∙◌, ap, subst, refl, ⊎_elim, arith}
-use Rattle.std.specs.BTreeSet.{btree_set_len}
+use Rattle.std.proofs.Common.{◌≡◌, ◌≢◌, ℕ, zero, suc, ◌+◌, ◌-◌, ◌<◌, ◌≤◌, ◌⊎◌, inl, inr, cond, nat_eq, List, [], ◌∷◌, ◌++◌, Option, Some, All, length, get_or, set, take, sum_by, slice_get, slice_index, sym, ◌∙◌, ap, subst, refl, ⊎_elim, arith}
 use Rattle.std.proofs.lemmas.Bool.{cases_eq, ne_eqb}
 use Rattle.std.proofs.lemmas.List.{take_at, take-append-le}
 use Rattle.std.proofs.lemmas.Option.{slice_get_within}
@@ -10,12 +9,12 @@ use Rattle.comm_sequence.specs.declared.comm.Comm.{Comm}
 use Rattle.comm_sequence.specs.declared.comm.Comm.TheVariants.{Write, Read}
 use Rattle.crossing_off.specs.declared.waiting.Waiting.{Waiting}
 use Rattle.crossing_off.specs.declared.worklist.Crossing.{Crossing}
-use Rattle.crossing_off.specs.Greedy.{cell_of, front, GoesFirst, IsChosen, IsFront, IsStuck, IsWanted, MayAll, MayCross}
-use Rattle.crossing_off.specs.bodies.Waiting.{HasAdded, HasNoted, HasPopped, NoneWait, Waits, waiting_len}
+use Rattle.crossing_off.specs.Greedy.{cell_of, front, GoesFirst, IsChosen, IsFront, IsStuck, MayCross}
+use Rattle.crossing_off.specs.bodies.Waiting.{HasAdded, HasNoted, HasPopped, MayWait, NoneWait, Waits}
 use Rattle.crossing_off.specs.bodies.Worklist.{front_at, moved_on, work_left, AreCounts, CanCount, HasAdvanced, HasCounted, IsComplete, IsPopped, IsUnderWay}
 use Rattle.crossing_off.proofs.Counting.{counts_read, counts_write}
 use Rattle.crossing_off.proofs.Counts.{occurs_push}
-use Rattle.crossing_off.proofs.Ends.{HasCell, front_known}
+use Rattle.crossing_off.proofs.Ends.{front_known, rest_may_wait}
 use Rattle.crossing_off.proofs.WhatIsLeft.{front_now, moved_less, rest_at, rests_after, rests_long, rests_of}
 use Rattle.crossing_off.proofs.Runs.{Holds, first_of, holds_all}
 use Rattle.crossing_off.proofs.Steps.{StandsFirst, is_front, other_cell, rest_other, stands_first}
@@ -75,7 +74,7 @@ popped s buffer old waiting e h complete p = (
 
 -- there is less to try
 pub popped_less : (old : Crossing) (waiting : Waiting) (e : Comm) → HasPopped old.waiting waiting e → work_left (record old { waiting = waiting }) < work_left old
-popped_less old waiting (Read m) p = omega (arith, p.0.len, ap btree_set_len p.1)
+popped_less old waiting (Read m) p = omega (arith, p.0.len, ap length p.1)
 popped_less old waiting (Write m) p = omega (arith, p.0.len, p.1.len)
 
 -- ---- none is left to try
@@ -310,6 +309,16 @@ cell_left s buffer now rests e c h may at is =
     let f = first_of s buffer now.order.items e h.sound may in
     let P : ℕ → Type 0 = λ k. (k < length rests) × (1 ≤ length (get_or rests k [])) in
     subst P (sym (same_cell s e c f.home at)) (some_left s buffer now rests e f h is)
+
+-- the operations of what is left there may wait
+pub known_left : (s : Sequences) (buffer : ℕ) (now : Crossing) (rests : List (List Comm)) (e : Comm) (c : ℕ) → IsUnderWay s buffer now
+    → MayCross s buffer now.order.items e → cell_of s.ends e ≡ Some c → rests ≡ now.rests.items → All MayWait (get_or rests c [])
+known_left s buffer now rests e c h may at is =
+    let f = first_of s buffer now.order.items e h.sound may in
+    let home = f.home.cell in
+    let left = ap (λ xs. get_or xs home []) (is ∙ h.rests) ∙ rest_at s now.order.items home f.home.within in
+    let P : ℕ → Type 0 = λ k. All MayWait (get_or rests k []) in
+    subst P (sym (same_cell s e c f.home at)) (subst (All MayWait) (sym left) (rest_may_wait s now.order.items home h.sound f.home.within))
 
 -- after a crossing, by the cell that is found
 pub crossed_at : (s : Sequences) (buffer : ℕ) (old start counted middle new : Crossing) (e : Comm) (c : ℕ) → IsUnderWay s buffer old

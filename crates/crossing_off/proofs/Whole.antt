@@ -1,6 +1,6 @@
 -- Where the greedy rule leaves nothing, its list is an order for the buffer.
-use Rattle.std.proofs.Common.{◌≡◌, ◌≢◌, ℕ, zero, suc, ◌+◌, ◌<◌, ◌≤◌, max, true, false, cond, List, [], ◌∷◌, ◌++◌, Option, None, Some, EachIndex, length, take, get_or, nat_eq, slice_get, slice_index_or, sym, ◌∙◌, ap, subst, refl, ⊎_elim, arith}
-use Rattle.std.specs.Option.{option_map, option_map_or}
+use Rattle.std.proofs.Common.{◌≡◌, ◌≢◌, ℕ, zero, suc, ◌<◌, ◌≤◌, true, false, cond, List, [], ◌∷◌, ◌++◌, Option, None, Some, EachIndex, length, take, get_or, nat_eq, slice_get, slice_index_or, sym, ◌∙◌, ap, subst, refl, ⊎_elim, arith}
+use Rattle.std.specs.Option.{option_map_or}
 use Rattle.std.proofs.lemmas.Bool.{cases_eq, cases_lt, eq-eqb, ne_eqb}
 use Rattle.std.proofs.lemmas.List.{append-nil, drop_all}
 use Rattle.std.proofs.lemmas.List.FromFn.{length-range_with_len}
@@ -10,7 +10,7 @@ use Rattle.comm_sequence.specs.BufferedOrder.{is_of, occurrences, IsBufferedOrde
 use Rattle.comm_sequence.specs.Sequences.{Sequences, IsSequences}
 use Rattle.comm_sequence.specs.declared.comm.Comm.{Comm}
 use Rattle.comm_sequence.specs.declared.comm.Comm.TheVariants.{Write, Read}
-use Rattle.crossing_off.specs.Greedy.{left, made, reads_of, rest, GoesFirst, IsChosen, IsCrossed, MayAll, MayCross}
+use Rattle.crossing_off.specs.Greedy.{left, made, reads_of, rest, IsCrossed, MayAll, MayCross}
 use Rattle.crossing_off.proofs.Counts.{occurs_push, push_itself}
 use Rattle.crossing_off.proofs.Ends.{has_ends_at}
 use Rattle.crossing_off.proofs.Exact.{cell_at, reads_are}

@@ -6,6 +6,7 @@ mod answer;
 mod laws;
 mod rests;
 mod waiting;
+mod waiting_set;
 mod waits;
 mod wanted;
 mod worklist;

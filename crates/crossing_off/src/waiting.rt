@@ -1,45 +1,45 @@
 //! The operations that wait to be tried.
-ghost use Rattle.std.specs.Prelude.{ℕ, OnOk, MatchOption};
-ghost use Rattle.crossing_off.specs.bodies.Waiting.{AddsTo, HasAdded, HasNoted, HasPopped, IsNew, IsUsedUp, NoneWait, TakesLeast};
+ghost use Rattle.std.specs.Prelude.{◌<◌, ℕ, IfSome, MatchOption};
+ghost use Rattle.sys_base.specs.declared.limits.TheConstants.{MESSAGES};
+ghost use Rattle.crossing_off.specs.bodies.Waiting.{HasAdded, HasNoted, HasPopped, IsNew, MayWait, NoneWait};
 
+use crate::waiting_set::WaitingSet;
 use comm_sequence::Comm;
-use std::alloc::Global;
-use std::collections::BTreeSet;
-use sys_base::Memory;
 
 /// The reads and the writes that wait to be tried, by their messages.
 #[derive(Drop)]
 pub(crate) struct Waiting {
-    reads: BTreeSet<u16>,
-    writes: BTreeSet<u16>,
+    reads: WaitingSet,
+    writes: WaitingSet,
 }
 
 impl Waiting {
     /// Nothing waits.
-    pub(crate) fn new(alloc: Global) -> Waiting
+    pub(crate) fn new() -> Waiting
         ensures { IsNew result }
     {
         Waiting {
-            reads: BTreeSet::new(alloc),
-            writes: BTreeSet::new(alloc),
+            reads: WaitingSet::new(),
+            writes: WaitingSet::new(),
         }
     }
 
     /// Lets both operations of a message wait.
-    pub(crate) fn add(&mut self, message: u16) -> Result<(), Memory>
-        ensures { OnOk result (HasAdded self.old self.new message) }
+    pub(crate) fn add(&mut self, message: u16)
+        requires { message < MESSAGES }
+        ensures { HasAdded self.old self.new message }
     {
-        add_to(&mut self.reads, message)?;
-        add_to(&mut self.writes, message)
+        self.reads.insert(message);
+        self.writes.insert(message);
     }
 
     /// Lets both operations of the message of an operation wait, if there is one.
-    pub(crate) fn note(&mut self, front: Option<Comm>) -> Result<(), Memory>
-        ensures { OnOk result (HasNoted front self.old self.new) }
+    pub(crate) fn note(&mut self, front: Option<Comm>)
+        requires { IfSome front MayWait }
+        ensures { HasNoted front self.old self.new }
     {
-        match front {
-            Some(operation) => self.add(operation.message()),
-            None => Ok(()),
+        if let Some(operation) = front {
+            self.add(operation.message());
         }
     }
 
@@ -47,27 +47,12 @@ impl Waiting {
     pub(crate) fn pop(&mut self) -> Option<Comm>
         ensures { MatchOption result (NoneWait self.old self.new) (HasPopped self.old self.new) }
     {
-        if let Some(message) = take_least(&mut self.reads) {
+        if let Some(message) = self.reads.take_least() {
             return Some(Comm::Read(message));
         }
-        match take_least(&mut self.writes) {
+        match self.writes.take_least() {
             Some(message) => Some(Comm::Write(message)),
             None => None,
         }
     }
-}
-
-/// Adds a message to a set.
-fn add_to(set: &mut BTreeSet<u16>, message: u16) -> Result<(), Memory>
-    ensures { OnOk result (AddsTo set.old set.new message) }
-{
-    set.insert(message)?;
-    Ok(())
-}
-
-/// Takes the least message out of a set.
-fn take_least(set: &mut BTreeSet<u16>) -> Option<u16>
-    ensures { MatchOption result (IsUsedUp set.old set.new) (TakesLeast set.old set.new) }
-{
-    set.pop_first()
 }

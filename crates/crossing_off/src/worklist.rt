@@ -1,8 +1,9 @@
 //! Crossing-off by a worklist: the operations that may have become ready wait to be tried.
-ghost use Rattle.std.specs.Prelude.{◌≡◌, ◌+◌, ◌-◌, ◌<◌, ◌≤◌, max, [], length, slice_index, slice_index_or, Some, IsTrue, ◌↔◌, IfOk, OnOk, ℕ};
+ghost use Rattle.std.specs.Prelude.{◌≡◌, ◌+◌, ◌-◌, ◌<◌, ◌≤◌, max, [], length, slice_index, slice_index_or, Some, IsTrue, ◌↔◌, All, IfOk, OnOk, ℕ};
 ghost use Rattle.comm_sequence.specs.Sequences.{message_of};
 ghost use Rattle.crossing_off.specs.Answer.{IsAnswer};
 ghost use Rattle.crossing_off.specs.Greedy.{cell_of, IsStuck, IsWanted, MayCross};
+ghost use Rattle.crossing_off.specs.bodies.Waiting.{MayWait};
 ghost use Rattle.crossing_off.specs.bodies.Worklist.{front_at, work_left, CanCount, HasAdvanced, HasCounted, IsComplete, IsPopped, IsUnderWay};
 
 use crate::rests::Rest;
@@ -36,14 +37,14 @@ impl<'a> Crossing<'a> {
     {
         let mut crossing = Crossing {
             rests: Vec::new(alloc),
-            waiting: Waiting::new(alloc),
+            waiting: Waiting::new(),
             held: vec![in alloc; 0u8; usize::from(seqs.messages())]?,
             wanted: wanted_of(alloc, seqs)?,
             order: Vec::new(alloc),
         };
         for cell in 0..seqs.cells() {
             let rest = Rest::new(seqs.cursor(cell));
-            crossing.waiting.note(rest.front())?;
+            crossing.waiting.note(rest.front());
             crossing.rests.push(rest)?;
         }
         Ok(crossing)
@@ -62,8 +63,9 @@ impl<'a> Crossing<'a> {
         }
         self.order.push(operation)?;
         self.count(operation);
-        self.advance(cell_of(seqs, operation))?;
-        self.waiting.add(operation.message())
+        self.advance(cell_of(seqs, operation));
+        self.waiting.add(operation.message());
+        Ok(())
     }
 
     /// Whether the operation may be crossed next.
@@ -120,15 +122,16 @@ impl<'a> Crossing<'a> {
     }
 
     /// Passes the first operation of a cell's list, and lets the message of the next one wait.
-    fn advance(&mut self, cell: u16) -> Result<(), Memory>
+    fn advance(&mut self, cell: u16)
         requires cell { cell < length self.old.rests.items }
         requires some { 1 ≤ length (slice_index_or self.old.rests.items cell []) }
-        ensures { OnOk result (HasAdvanced self.old self.new cell) }
+        requires known { All MayWait (slice_index_or self.old.rests.items cell []) }
+        ensures { HasAdvanced self.old self.new cell }
     {
         let rest = &mut self.rests[usize::from(cell)];
         rest.advance();
         let front = rest.front();
-        self.waiting.note(front)
+        self.waiting.note(front);
     }
 
     /// The answer, once no operation may be crossed any more.
@@ -175,7 +178,7 @@ fn cell_of(seqs: &Seqs, operation: Comm) -> u16
 /// `seqs.messages()`, and a cell by its own, below `seqs.cells()`. The only error is want of memory, which may come
 /// for any `seqs`.
 ///
-/// The time is linear in the number of operations, but for a logarithm of the number of messages.
+/// The time is linear in the number of operations.
 pub fn cross(alloc: Global, seqs: &Seqs, buffer: u8) -> Result<Crossed, Memory>
     ensures { IfOk result (IsAnswer seqs.now buffer) }
 {

@@ -1,36 +1,15 @@
 -- The operations that wait to be tried.
-use Rattle.std.specs.Prelude.{ℕ, ◌≡◌, ◌+◌, ◌<◌, ◌≤◌, ◌⊎◌, Option, None, Some, IsTrue}
-use Rattle.std.specs.Ordering.{nat_cmp}
-use Rattle.std.specs.BTreeSet.{BTreeSet, contains, btree_set_len}
+use Rattle.std.specs.Prelude.{ℕ, ◌≡◌, ◌+◌, ◌<◌, Option, None, Some, length}
+use Rattle.sys_base.specs.declared.limits.TheConstants.{MESSAGES}
 use Rattle.comm_sequence.specs.Sequences.{message_of}
 use Rattle.comm_sequence.specs.declared.comm.Comm.{Comm}
 use Rattle.comm_sequence.specs.declared.comm.Comm.TheVariants.{Write, Read}
 use Rattle.crossing_off.specs.declared.waiting.Waiting.{Waiting}
+use Rattle.crossing_off.specs.bodies.WaitingSet.{AddsTo, IsIn, IsUsedUp, TakesLeast}
 
--- The message is in the set.
-abbrev pub IsIn : BTreeSet ℕ → ℕ → Type 0
-IsIn set m = IsTrue (contains nat_cmp set m)
-
--- The message was added to the set.
-pub record AddsTo (old new : BTreeSet ℕ) (m : ℕ) : Type 0 where
-  pub kept : (k : ℕ) → IsIn old k → IsIn new k
-  pub added : IsIn new m
-  pub only : (k : ℕ) → IsIn new k → IsIn old k ⊎ (k ≡ m)
-  pub len : btree_set_len new ≤ btree_set_len old + 1
-
--- The message was the least of the set, and was taken out.
-pub record TakesLeast (old new : BTreeSet ℕ) (m : ℕ) : Type 0 where
-  pub was : IsIn old m
-  pub least : (k : ℕ) → IsIn old k → m ≤ k
-  pub others : (k : ℕ) → IsIn old k → (k ≡ m) ⊎ IsIn new k
-  pub only : (k : ℕ) → IsIn new k → IsIn old k
-  pub len : btree_set_len new < btree_set_len old
-
--- Nothing was in the set, and nothing is.
-pub record IsUsedUp (old new : BTreeSet ℕ) : Type 0 where
-  pub before : (k : ℕ) → IsIn old k → ⊥
-  pub after : (k : ℕ) → IsIn new k → ⊥
-  pub len : btree_set_len new ≤ btree_set_len old
+-- The operation's message is one that a program may have.
+abbrev pub MayWait : Comm → Type 0
+MayWait operation = message_of operation < MESSAGES
 
 -- The operation waits.
 abbrev pub Waits : Waiting → Comm → Type 0
@@ -39,7 +18,7 @@ Waits waiting (Write m) = IsIn waiting.writes m
 
 -- how many operations wait
 abbrev pub waiting_len : Waiting → ℕ
-waiting_len waiting = btree_set_len waiting.reads + btree_set_len waiting.writes
+waiting_len waiting = length waiting.reads + length waiting.writes
 
 -- Nothing waits at first.
 pub record IsNew (waiting : Waiting) : Type 0 where

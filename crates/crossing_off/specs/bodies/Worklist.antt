@@ -1,5 +1,5 @@
 -- How far crossing-off has come, and what it still has to try.
-use Rattle.std.specs.Prelude.{ℕ, ◌≡◌, ◌+◌, ◌-◌, ◌*◌, ◌<◌, ◌≤◌, ◌⊎◌, List, [], ◌∷◌, ◌++◌, Option, Some, IsTrue, length, map, set, drop, take, sum_by, slice_get, slice_index, slice_index_or}
+use Rattle.std.specs.Prelude.{ℕ, ◌≡◌, ◌+◌, ◌-◌, ◌*◌, ◌<◌, ◌≤◌, ◌⊎◌, List, [], Option, Some, length, map, set, drop, take, sum_by, slice_get, slice_index, slice_index_or}
 use Rattle.cell_types.specs.Groups.{below}
 use Rattle.comm_sequence.specs.BufferedOrder.{occurrences}
 use Rattle.comm_sequence.specs.Sequences.{Sequences, IsSequences, message_of}

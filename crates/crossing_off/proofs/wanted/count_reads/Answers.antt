@@ -1,4 +1,4 @@
-use Rattle.std.proofs.Common.{◌≡◌, ◌+◌, ◌<◌, ◌∙◌, ◌∷◌, length, ap, sym, arith}
+use Rattle.std.proofs.Common.{◌≡◌, ◌<◌, ◌∙◌, length, ap, arith}
 use Rattle.comm_sequence.specs.Sequences.{message_of}
 use Rattle.crossing_off.proofs.ReadSoFar.{grows, no_read, one_read, rest_known}
 use Rattle.crossing_off.proofs.wanted.count_reads.Goals as goal

@@ -1,6 +1,6 @@
-use Rattle.std.proofs.Common.{◌≡◌, ℕ, ◌+◌, ◌<◌, ◌≤◌, ◌^◌, ◌∙◌, ◌++◌, Some, [], length, get_or, take, drop, slice_get, slice_index, slice_index_or, ap, sym, refl, subst, rules, arith}
+use Rattle.std.proofs.Common.{◌≡◌, ◌+◌, ◌<◌, ◌∙◌, length, slice_index, ap, rules, arith}
 use Rattle.std.proofs.lemmas.List.{places, with_items_is}
-use Rattle.std.proofs.lemmas.Option.{slice_get-get_or, slice_get_within}
+use Rattle.std.proofs.lemmas.Option.{slice_get_within}
 use Rattle.comm_sequence.specs.BufferedOrder.{occurrences}
 use Rattle.comm_sequence.specs.declared.comm.Comm.TheVariants.{Read}
 use Rattle.crossing_off.proofs.Lists.{is_there}

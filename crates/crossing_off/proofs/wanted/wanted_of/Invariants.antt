@@ -1,4 +1,4 @@
-use Rattle.std.proofs.Common.{◌≡◌, ℕ, ◌<◌, Some, length, cond, nat_lt, slice_get, slice_index, slice_index_or, []}
+use Rattle.std.proofs.Common.{◌≡◌, ℕ, Some, length, cond, nat_lt, slice_get, slice_index, slice_index_or, []}
 use Rattle.comm_sequence.specs.BufferedOrder.{occurrences}
 use Rattle.comm_sequence.specs.declared.comm.Comm.TheVariants.{Read}
 use Rattle.crossing_off.proofs.wanted.wanted_of.Given as goal

@@ -1,7 +1,6 @@
-use Rattle.std.proofs.Common.{◌≡◌, ◌<◌, ◌≤◌, ◌∙◌, ap, max, sym, arith}
+use Rattle.std.proofs.Common.{◌∙◌, ap, sym, arith}
 use Rattle.std.proofs.lemmas.Bool.{false≢true}
 use Rattle.comm_sequence.specs.Sequences.{message_of}
-use Rattle.comm_sequence.specs.declared.comm.Comm.TheVariants.{Write, Read}
 use Rattle.crossing_off.proofs.Tests.{cell_there, first_is, held_at, may_read, may_write, may_first, no_room}
 use Rattle.crossing_off.proofs.worklist.Crossing.may_cross.Goals as goal
 

@@ -1,8 +1,18 @@
-use Rattle.std.proofs.Common.{◌≡◌, ◌+◌, ◌<◌, ◌++◌, ◌∷◌, [], List, ℕ, length, slice_get, sym, ◌∙◌, ap, subst, arith}
+use Rattle.std.proofs.Common.{◌≡◌, ◌+◌, ◌++◌, ◌∷◌, [], List, ℕ, length, slice_get, sym, ◌∙◌, ap, subst, arith}
 use Rattle.comm_sequence.specs.declared.comm.Comm.{Comm}
 use Rattle.crossing_off.specs.Greedy.{rest}
+use Rattle.crossing_off.proofs.Ends.{first_may_wait, rest_may_wait}
 use Rattle.crossing_off.proofs.Start.{IsStarted, started_more, complete_start}
 use Rattle.crossing_off.proofs.worklist.Crossing.new.Goals as goal
+
+pub note-requires : goal.note-requires
+note-requires c =
+    let s = c.args.seqs.now in
+    let cell = c.loop-cell.cell in
+    let is : c.new-rest.result ≡ rest s [] cell = c.new-rest.ensures ∙ c.cursor.ensures.list in
+    first_may_wait 0 (rest s [] cell) c.front.result
+    (rest_may_wait s [] cell c.cursor.ensures.kept (omega (arith, c.loop-cell-test.true, c.cells-cell-end.ensures.cells)))
+    (c.front.ensures ∙ ap (λ xs. slice_get xs 0) is)
 
 pub loop-cell-preserved : goal.loop-cell-preserved
 loop-cell-preserved c =
@@ -16,7 +26,7 @@ loop-cell-preserved c =
     let items = c.in_ok-push.ensures.items ∙ ap (λ x. old.rests.items ++ x ∷ []) is in
     subst P (sym items)
     (started_more s old.rests.items old.waiting new old.held.items old.wanted.items old.order.items cell c.front.result
-    (omega (arith, c.loop-cell-test.true, c.cells-cell-end.ensures.cells)) c.loop-cell.invariant front c.in_ok-note.ensures)
+    (omega (arith, c.loop-cell-test.true, c.cells-cell-end.ensures.cells)) c.loop-cell.invariant front c.note.ensures)
 
 pub returns-clause-complete : goal.returns-clause-complete
 returns-clause-complete c =

@@ -1,8 +1,7 @@
-use Rattle.std.proofs.Common.{◌≡◌, ◌<◌, ◌≤◌, ap, sym, subst, ◌∙◌, refl, arith}
-use Rattle.std.proofs.lemmas.Result.{on_ok_weaker}
+use Rattle.std.proofs.Common.{subst, refl, arith}
 use Rattle.crossing_off.specs.bodies.Waiting.{HasAdded}
 use Rattle.crossing_off.specs.declared.worklist.Crossing.{Crossing}
-use Rattle.crossing_off.proofs.Turn.{cell_left, counted_same, crossed_at}
+use Rattle.crossing_off.proofs.Turn.{cell_left, counted_same, crossed_at, known_left}
 use Rattle.crossing_off.proofs.worklist.Crossing.try_operation.Goals as goal
 
 pub advance-requires-clause-cell : goal.advance-requires-clause-cell
@@ -19,14 +18,23 @@ advance-requires-clause-some c =
     (cell_left c.args.seqs.now c.args.buffer old c.count.new.self.rests.items c.args.operation c.cell_of.result c.requires.under_way
     (c.may_cross.ensures.0 c.if-not-may_cross.false) c.cell_of.ensures (counted_same start c.count.new.self c.args.operation c.count.ensures).0).1
 
+pub advance-requires-clause-known : goal.advance-requires-clause-known
+advance-requires-clause-known c =
+    let old = c.args.self.now in
+    let start : Crossing = record { rests = old.rests; waiting = old.waiting; held = old.held; wanted = old.wanted; order = c.push.new.self } in
+    known_left c.args.seqs.now c.args.buffer old c.count.new.self.rests.items c.args.operation c.cell_of.result c.requires.under_way
+    (c.may_cross.ensures.0 c.if-not-may_cross.false) c.cell_of.ensures (counted_same start c.count.new.self c.args.operation c.count.ensures).0
+
+pub add-requires : goal.add-requires
+add-requires c =
+    omega (arith, c.message.ensures, c.requires.popped.known, c.requires.under_way.sound.messages)
+
 pub returns-clause-under_way : goal.returns-clause-under_way
 returns-clause-under_way c =
     let old = c.args.self.now in
     let start : Crossing = record { rests = old.rests; waiting = old.waiting; held = old.held; wanted = old.wanted; order = c.push.new.self } in
     let middle = c.advance.new.self in
     let new : Crossing = record { rests = middle.rests; waiting = c.add.new.self; held = middle.held; wanted = middle.wanted; order = middle.order } in
-    on_ok_weaker c.add.result
-    (λ (added : HasAdded middle.waiting c.add.new.self c.message.result).
     (crossed_at c.args.seqs.now c.args.buffer old start c.count.new.self middle new c.args.operation c.cell_of.result c.requires.under_way
     c.requires.popped (c.may_cross.ensures.0 c.if-not-may_cross.false) c.cell_of.ensures (record {
       rests = refl;
@@ -35,14 +43,13 @@ returns-clause-under_way c =
       wanted = refl;
       order = c.in_ok-push.ensures.items;
       count = c.count.ensures;
-      advance = c.in_ok-advance.ensures;
+      advance = c.advance.ensures;
       new_rests = refl;
       new_held = refl;
       new_wanted = refl;
       new_order = refl;
-      added = subst (HasAdded middle.waiting c.add.new.self) c.message.ensures added;
-    })).0)
-    c.add.ensures
+      added = subst (HasAdded middle.waiting c.add.new.self) c.message.ensures c.add.ensures;
+    })).0
 
 pub returns-clause-complete : goal.returns-clause-complete
 returns-clause-complete c =
@@ -50,8 +57,6 @@ returns-clause-complete c =
     let start : Crossing = record { rests = old.rests; waiting = old.waiting; held = old.held; wanted = old.wanted; order = c.push.new.self } in
     let middle = c.advance.new.self in
     let new : Crossing = record { rests = middle.rests; waiting = c.add.new.self; held = middle.held; wanted = middle.wanted; order = middle.order } in
-    on_ok_weaker c.add.result
-    (λ (added : HasAdded middle.waiting c.add.new.self c.message.result).
     (crossed_at c.args.seqs.now c.args.buffer old start c.count.new.self middle new c.args.operation c.cell_of.result c.requires.under_way
     c.requires.popped (c.may_cross.ensures.0 c.if-not-may_cross.false) c.cell_of.ensures (record {
       rests = refl;
@@ -60,14 +65,13 @@ returns-clause-complete c =
       wanted = refl;
       order = c.in_ok-push.ensures.items;
       count = c.count.ensures;
-      advance = c.in_ok-advance.ensures;
+      advance = c.advance.ensures;
       new_rests = refl;
       new_held = refl;
       new_wanted = refl;
       new_order = refl;
-      added = subst (HasAdded middle.waiting c.add.new.self) c.message.ensures added;
-    })).1)
-    c.add.ensures
+      added = subst (HasAdded middle.waiting c.add.new.self) c.message.ensures c.add.ensures;
+    })).1
 
 pub returns-clause-work : goal.returns-clause-work
 returns-clause-work c =
@@ -75,8 +79,6 @@ returns-clause-work c =
     let start : Crossing = record { rests = old.rests; waiting = old.waiting; held = old.held; wanted = old.wanted; order = c.push.new.self } in
     let middle = c.advance.new.self in
     let new : Crossing = record { rests = middle.rests; waiting = c.add.new.self; held = middle.held; wanted = middle.wanted; order = middle.order } in
-    on_ok_weaker c.add.result
-    (λ (added : HasAdded middle.waiting c.add.new.self c.message.result).
     (crossed_at c.args.seqs.now c.args.buffer old start c.count.new.self middle new c.args.operation c.cell_of.result c.requires.under_way
     c.requires.popped (c.may_cross.ensures.0 c.if-not-may_cross.false) c.cell_of.ensures (record {
       rests = refl;
@@ -85,11 +87,10 @@ returns-clause-work c =
       wanted = refl;
       order = c.in_ok-push.ensures.items;
       count = c.count.ensures;
-      advance = c.in_ok-advance.ensures;
+      advance = c.advance.ensures;
       new_rests = refl;
       new_held = refl;
       new_wanted = refl;
       new_order = refl;
-      added = subst (HasAdded middle.waiting c.add.new.self) c.message.ensures added;
-    })).2)
-    c.add.ensures
+      added = subst (HasAdded middle.waiting c.add.new.self) c.message.ensures c.add.ensures;
+    })).2
