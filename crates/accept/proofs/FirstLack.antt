@@ -186,7 +186,7 @@ module _ (p : ProgramCode) (labels : List ℕ) where
   by_label link label = labelled labels (users (routes_of p) (lengths_of p) link) label
 
   -- the groups at a link are those of the link
-  at_link : (link : ℕ) → link < 4 * cell_count p.grid
+  pub at_link : (link : ℕ) → link < 4 * cell_count p.grid
       → groups_at (all_groups p labels (lengths_of p)) link ≡ groups (routes_of p) labels (lengths_of p) link
   at_link link l =
       get_or-map-range_with_len (groups (routes_of p) labels (lengths_of p)) 0 (4 * cell_count p.grid) link link [] l (omega arith)

@@ -10,7 +10,7 @@ use Rattle.cell_tree.specs.declared.source.Source.{Source}
 use Rattle.cell_tree.specs.Nodes.{source_nodes}
 use Rattle.cell_types.specs.Code.{CellCode, ProgramCode}
 use Rattle.cell_types.specs.Resolved.{program_of}
-use Rattle.cell_types.specs.Size.{block_size, cell_size}
+use Rattle.cell_types.specs.Size.{block_size}
 use Rattle.cell_types.specs.Solo.{code_of}
 use Rattle.accept.specs.Source.{IsSource}
 use Rattle.accept.specs.bodies.Laws.{CodeLaws}

@@ -19,7 +19,7 @@ use Rattle.refusals.specs.declared.refusal.Refusal.{Refusal}
 use Rattle.refusals.specs.declared.refusal.Refusal.TheVariants as R
 use Rattle.accept.specs.bodies.Answers.{IsFound}
 use Rattle.accept.specs.Built.{IsJudged}
-use Rattle.accept.specs.FirstRefusal.{IsCostly, HasUnlikeArms, IsStalled, HasSomeLabels, HasFallingLabels, HasTooFewQueues, IsOverBound, label_trials, program_trials, IsFirstOf, PassesAll}
+use Rattle.accept.specs.FirstRefusal.{IsCostly, HasUnlikeArms, IsStalled, HasSomeLabels, HasFallingLabels, HasTooFewQueues, IsOverBound, cell_trials, naming_trials, label_trials, IsFirstOf, PassesAll}
 use Rattle.accept.specs.Labelled.{AreLabels, has_label, first_unlabelled, lacks_of}
 use Rattle.accept.specs.bodies.Laws.{Laws}
 use Rattle.accept.specs.bodies.Reading.{unlike}
@@ -60,7 +60,7 @@ module _ (laws : Laws) (p : ProgramCode) where
       sum ∙ ap (λ k. cells_cost p + forwards p + k) (ap (sum_by length) groups ∙ laws.groups p labels)
 
   -- the cells that cost too much come first
-  pub costly_first : STEPS < cells_cost p → IsFirstOf program_trials p R.CellSteps
+  pub costly_first : STEPS < cells_cost p → IsFirstOf cell_trials p R.CellSteps
   costly_first many = inl (many, refl)
 
   module _ (few : cells_cost p ≤ STEPS) where
@@ -69,7 +69,7 @@ module _ (laws : Laws) (p : ProgramCode) where
     not_costly q (many, _) = absurd (omega (arith, few, many))
 
     -- arms that differ come next
-    pub unlike_first : (e : CommError) → IsFirst (all_differing p) e → IsFound (IsFirstOf program_trials) p (unlike e)
+    pub unlike_first : (e : CommError) → IsFirst (all_differing p) e → IsFound (IsFirstOf cell_trials) p (unlike e)
     unlike_first (C.ArmsDiffer cell line) h = inr (not_costly, inl (cell, h))
     unlike_first C.Memory h = tt
 
@@ -81,8 +81,8 @@ module _ (laws : Laws) (p : ProgramCode) where
           none_some (cell, line) (subst (λ ds. slice_get ds 0 ≡ Some (cell, line)) alike there)
 
       -- a stall comes next
-      pub stalled_first : (e : AcceptError) → IsFound IsStalled p e → IsFound (IsFirstOf program_trials) p e
-      stalled_first e h = found IsStalled (IsFirstOf program_trials) p e (λ r k. inr (not_costly, inr (not_unlike, inl k))) h
+      pub stalled_first : (e : AcceptError) → IsFound IsStalled p e → IsFound (IsFirstOf cell_trials) p e
+      stalled_first e h = found IsStalled (IsFirstOf cell_trials) p e (λ r k. inr (not_costly, inr (not_unlike, inl k))) h
 
       module _ (order : List Comm) (empty : IsEmpty (sequences_of p) p.buffer order) where
         -- a program with an order for its buffer isn't stalled
@@ -91,19 +91,13 @@ module _ (laws : Laws) (p : ProgramCode) where
             let stuck = (stalling p q h).2 in
             stuck.1.no_order order empty.is_order
 
-        -- a refusal of the labels, the queues or the bound comes next
-        pub behind_order : (e : AcceptError) → IsFound (IsFirstOf label_trials) p e → IsFound (IsFirstOf program_trials) p e
-        behind_order e h =
-            found (IsFirstOf label_trials) (IsFirstOf program_trials) p e
-            (λ r k. inr (not_costly, inr (not_unlike, inr (not_stalled, k)))) h
-
-        -- where none of those applies, none does
-        pub passes_all : PassesAll label_trials p → PassesAll program_trials p
-        passes_all rest = (not_costly, (not_unlike, (not_stalled, rest)))
+        -- then none of these trials applies
+        pub cells_pass : PassesAll cell_trials p
+        cells_pass = (not_costly, (not_unlike, (not_stalled, tt)))
 
   -- a message without a label comes first of the labels, the queues and the bound
-  pub lacking_first : (e : AcceptError) → IsFound HasSomeLabels p e → IsFound (IsFirstOf label_trials) p e
-  lacking_first e h = found HasSomeLabels (IsFirstOf label_trials) p e (λ r k. inl k) h
+  pub lacking_first : (e : AcceptError) → IsFound HasSomeLabels p e → IsFound (IsFirstOf naming_trials) p e
+  lacking_first e h = found HasSomeLabels (IsFirstOf naming_trials) p e (λ r k. inl k) h
 
   module _ (labels : List ℕ) (are : AreLabels p labels) where
     -- where there are labels, each message has one, or none has
@@ -113,8 +107,8 @@ module _ (laws : Laws) (p : ProgramCode) where
         none_some name (sym (all_labelled p.messages labels (are.given some)) ∙ first)
 
     -- a fall comes next
-    pub falling_first : (e : AcceptError) → IsFound HasFallingLabels p e → IsFound (IsFirstOf label_trials) p e
-    falling_first e h = found HasFallingLabels (IsFirstOf label_trials) p e (λ r k. inr (not_lacking, inl k)) h
+    pub falling_first : (e : AcceptError) → IsFound HasFallingLabels p e → IsFound (IsFirstOf naming_trials) p e
+    falling_first e h = found HasFallingLabels (IsFirstOf naming_trials) p e (λ r k. inr (not_lacking, inl k)) h
 
     module _ (consistent : IsConsistent (sequences_of p).lists labels) where
       -- consistent labels don't fall
@@ -127,6 +121,10 @@ module _ (laws : Laws) (p : ProgramCode) where
           let rises = consistent fall.before fall.after
           (record { cell = fall.cell; place = at.place; first = at.first; second = second }) in
           absurd (omega (arith, at.lower, rises))
+
+      -- then none of the trials of labels applies
+      pub names_pass : PassesAll naming_trials p
+      names_pass = (not_lacking, (not_falling, tt))
 
       -- a lack of queues comes next
       pub few_first : (e : AcceptError) → IsFound HasTooFewQueues p e → IsFound (IsFirstOf label_trials) p e

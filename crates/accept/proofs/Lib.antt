@@ -1,5 +1,5 @@
-pub mod Accepted
 pub mod OneRefusal
+pub mod Trials
 pub mod Refused
 pub mod ToldFault
 pub mod Waits
@@ -12,4 +12,10 @@ pub mod Imaged
 pub mod Unlabelled
 pub mod FallsInside
 pub mod SomeRefusal
+pub mod Needed
+pub mod Accepted
 pub mod OneBuild
+pub mod NeedLines
+pub mod AllLabels
+pub mod NeedAnswers
+mod NeedExamples

@@ -29,13 +29,14 @@ use Rattle.refusals.specs.declared.refusal.Refusal.{Refusal}
 use Rattle.refusals.specs.declared.refusal.Refusal.TheVariants as R
 use Rattle.refusals.specs.declared.walk.WalkLine.{WalkLine}
 use Rattle.accept.specs.declared.building.AcceptError.TheVariants as A
-use Rattle.accept.specs.FirstRefusal.{IsLong, IsMisspelt, IsOver, IsMisplaced, IsFaulty, IsCostly, HasUnlikeArms, IsStalled, HasSomeLabels, HasFallingLabels, HasTooFewQueues, IsOverBound, Trials, Passed, Try, program_trials, OfSource, of_source, trials, IsFirstOf, PassesAll, FirstRefusal, Accepts}
+use Rattle.accept.specs.FirstRefusal.{IsLong, IsMisspelt, IsOver, IsMisplaced, IsFaulty, IsCostly, HasUnlikeArms, IsStalled, HasSomeLabels, HasFallingLabels, HasTooFewQueues, IsOverBound, Trials, Passed, Try, program_trials, OfSource, of_source, trials, IsFirstOf, FirstRefusal, Accepts}
 use Rattle.accept.specs.Labelled.{IsLabelled, AreLabels, has_label, lacks_of, members_of}
 use Rattle.accept.specs.bodies.Laws.{Laws}
 use Rattle.accept.specs.bodies.Reading.{misspelt, misplaced}
 use Rattle.accept.specs.Source.{IsSource}
 use Rattle.accept.specs.Told.{static_refusal, walk_lines, fall_refusal, lack_refusal}
 use Rattle.accept.proofs.OneFall.{one_fall}
+use Rattle.accept.proofs.Trials.{accepted_of}
 
 -- ---- the first token over a limit
 
@@ -309,12 +310,6 @@ module _ (laws : Laws) where
       (costly_unique, (unlike_unique, (stalled_unique, (lacking_unique, (falling_unique, (few_unique, (bound_unique, tt))))))) in
       first_unique trials
       (long_unique, (misspelt_unique, (over_unique, (misplaced_unique, (faulty_unique, source_unique program_trials of_programs)))))
-
--- where no trial applies, none is the first that applies
-accepted_of : {A : Type 0} (ts : Trials A) (a : A) (r : Refusal) → PassesAll ts a → IsFirstOf ts a r → ⊥
-accepted_of Passed a r p h = h
-accepted_of (Try Applies rest) a r p (inl h) = p.0 r h
-accepted_of (Try Applies rest) a r p (inr h) = accepted_of rest a r p.1 h.1
 
 -- a text that is accepted has no refusal
 pub no_refusal : (text : List ℕ) (r : Refusal) → Accepts text → FirstRefusal text r → ⊥

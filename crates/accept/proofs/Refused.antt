@@ -1,6 +1,6 @@
 -- The first refusal of a text, and what there is of a text that has none.
 use Rattle.std.proofs.Common.{ℕ, ◌≡◌, ◌<◌, ◌≤◌, ◌⊎◌, List, [], Some, inl, inr, length, slice_get, refl, sym, ap, subst, ◌∙◌, Result, Ok, Err, arith}
-use Rattle.std.specs.Prelude.{IfErr}
+use Rattle.std.specs.Prelude.{IfErr, IfOk}
 use Rattle.std.specs.Result.{IsErrAnd}
 use Rattle.sys_base.specs.declared.limits.TheConstants.{SOURCE_BYTES}
 use Rattle.cell_lexer.specs.declared.error.LexError.{LexError}
@@ -28,23 +28,20 @@ use Rattle.accept.specs.declared.building.AcceptError.{AcceptError}
 use Rattle.accept.specs.declared.building.Built.{Built}
 use Rattle.accept.specs.declared.building.AcceptError.TheVariants as A
 use Rattle.accept.specs.Built.{IsBuilt, IsJudged, IsRefused}
-use Rattle.accept.specs.FirstRefusal.{IsLong, IsMisspelt, IsOver, IsMisplaced, IsFaulty, Trials, Passed, Try, program_trials, OfSource, of_source, IsFirstOf, PassesAll, FirstRefusal, Accepts}
+use Rattle.accept.specs.FirstRefusal.{IsLong, IsMisspelt, IsOver, IsMisplaced, IsFaulty, Trials, Passed, Try, then_, text_trials, program_trials, OfSource, of_source, IsFirstOf, PassesAll}
 use Rattle.accept.specs.bodies.Laws.{Laws}
 use Rattle.accept.specs.bodies.Reading.{misspelt, misplaced}
 use Rattle.accept.specs.Source.{IsSource}
-use Rattle.accept.specs.bodies.Answers.{IsFaultTold, IsFound}
+use Rattle.accept.specs.bodies.Answers.{IsFaultTold, IsFound, IsProgramOf, IsUnread}
+use Rattle.accept.proofs.Trials.{first_then, then_first, then_passes}
 use Rattle.accept.proofs.OneRefusal.{misspelling, excess, misplacing, none_some, one_source}
 
 -- the trial never applies
 abbrev Never : {A : Type 0} → (A → Refusal → Type 0) → A → Type 0
 Never Applies a = (q : Refusal) → Applies a q → ⊥
 
--- the trials behind those of the text's tokens
-abbrev static_trials : Trials (List ℕ)
-static_trials = Try IsFaulty (of_source program_trials)
-
 -- a text of too many bytes is refused first
-pub long_refused : (text : List ℕ) → SOURCE_BYTES < length text → FirstRefusal text R.LongSource
+pub long_refused : (text : List ℕ) → SOURCE_BYTES < length text → IsFirstOf text_trials text R.LongSource
 long_refused text l = inl (l, refl)
 
 module _ (text : List ℕ) (short : length text ≤ SOURCE_BYTES) where
@@ -53,7 +50,7 @@ module _ (text : List ℕ) (short : length text ≤ SOURCE_BYTES) where
   not_long q h = absurd (omega (arith, h.0))
 
   -- what the lexer finds wrong is refused first
-  pub misspelt_refused : (e : LexError) → FirstFault text e ⊎ (e ≡ L.Memory) → IsRefused text (misspelt e)
+  pub misspelt_refused : (e : LexError) → FirstFault text e ⊎ (e ≡ L.Memory) → IsUnread text (misspelt e)
   misspelt_refused (L.BadByte at) (inl f) = inr (not_long, inl f)
   misspelt_refused (L.BigNumber line) (inl f) = inr (not_long, inl f)
   misspelt_refused (L.LongName line) (inl f) = inr (not_long, inl f)
@@ -75,7 +72,7 @@ module _ (text : List ℕ) (short : length text ≤ SOURCE_BYTES) where
         kept over.at e (subst (λ vs. OverAt vs over.at e) (one text us ts is lexed) over.over)
 
     -- what the parser finds wrong is refused first
-    pub misplaced_refused : (e : ParseError) → C.IsRefused text ts e → IsRefused text (misplaced e)
+    pub misplaced_refused : (e : ParseError) → C.IsRefused text ts e → IsUnread text (misplaced e)
     misplaced_refused (P.LongPiece line) h = inr (not_long, inr (not_misspelt, inl (ts, lexed, h)))
     misplaced_refused (P.Braces line) h = inr (not_long, inr (not_misspelt, inl (ts, lexed, h)))
     misplaced_refused (P.Unexpected line column) h =
@@ -98,13 +95,10 @@ module _ (text : List ℕ) (short : length text ≤ SOURCE_BYTES) where
     never_over : Never IsOver text
     never_over = not_over laws.apart laws.tokens is.tokens is.lexed is.kept
 
-    -- what applies behind these is the first refusal
-    behind_reading : (r : Refusal) → IsFirstOf static_trials text r → FirstRefusal text r
-    behind_reading r h = inr (not_long, inr (never_misspelt, inr (never_over, inr (not_misplaced, h))))
-
     -- the first fault is refused first
-    pub fault_refused : (e : AcceptError) → IsFaultTold s e → IsRefused text e
-    fault_refused (A.Refused r) (e, first, told) = behind_reading r (inl (s, is, e, first, told))
+    pub fault_refused : (e : AcceptError) → IsFaultTold s e → IsUnread text e
+    fault_refused (A.Refused r) (e, first, told) =
+        inr (not_long, inr (never_misspelt, inr (never_over, inr (not_misplaced, inl (s, is, e, first, told)))))
     fault_refused A.Memory h = tt
 
     module _ (none : faults s ≡ []) where
@@ -129,41 +123,73 @@ module _ (text : List ℕ) (short : length text ≤ SOURCE_BYTES) where
       passes_of Passed h = tt
       passes_of (Try Applies rest) h = (never_of Applies h.0, passes_of rest h.1)
 
+      -- neither the text nor its source is refused
+      text_passes : PassesAll text_trials text
+      text_passes = (not_long, (never_misspelt, (never_over, (not_misplaced, (not_faulty, tt)))))
+
       -- the first refusal of its program is that of the text
-      pub program_refused : (e : AcceptError) → IsFound (IsFirstOf program_trials) (program_of s) e → IsRefused text e
-      program_refused (A.Refused r) h = behind_reading r (inr (not_faulty, first_of program_trials r h))
-      program_refused A.Memory h = tt
+      pub first_in : (ts : Trials ProgramCode) (r : Refusal) → IsFirstOf ts (program_of s) r
+          → IsFirstOf (then_ text_trials (of_source ts)) text r
+      first_in ts r h = then_first text_trials (of_source ts) text r text_passes (first_of ts r h)
 
       -- and where its program has none, the text has none
-      pub accepts_of : PassesAll program_trials (program_of s) → Accepts text
-      accepts_of passes =
-          (not_long, (never_misspelt, (never_over, (not_misplaced, (not_faulty, passes_of program_trials passes)))))
+      pub passes_in : (ts : Trials ProgramCode) → PassesAll ts (program_of s) → PassesAll (then_ text_trials (of_source ts)) text
+      passes_in ts passes = then_passes text_trials (of_source ts) text text_passes (passes_of ts passes)
 
-      -- what is made of its program is made of the text
-      pub is_built : (program : Contents) (b : Built) (order : List Comm) (labels : List ℕ) (steps : ℕ) → plain program ≡ program_of s
-          → PassesAll program_trials (plain program) → IsJudged (plain program) order labels steps
-          → b.program ≡ program → b.order ≡ order → b.image ≡ image_of (plain program) labels → IsBuilt text b
-      is_built program b order labels steps same passes judged keeps orders images =
-          let at : plain b.program ≡ plain program = ap plain keeps in
-          let bounded : steps ≡ b.image.bound = judged.bound_is ∙ sym (ap (λ (i : Image). i.bound) images) in
-          let counted : IsJudged (plain program) order labels b.image.bound =
-          subst (λ n. IsJudged (plain program) order labels n) bounded judged in
-          let ordered : IsJudged (plain program) b.order labels b.image.bound =
-          subst (λ o. IsJudged (plain program) o labels b.image.bound) (sym orders) counted in
-          record {
-            accepts = accepts_of (subst (PassesAll program_trials) same passes);
-            source = s;
-            is = is;
-            program_is = at ∙ same;
-            labels = labels;
-            judged = subst (λ p. IsJudged p b.order labels b.image.bound) (sym at) ordered;
-            image_is = images ∙ ap (λ p. image_of p labels) (sym at);
-          }
+-- what a source is resolved to is the program of the text, or the refusal of its first fault
+module _ (laws : Laws) (text : List ℕ) (short : length text ≤ SOURCE_BYTES) (s : Source) (is : IsSource text s) where
+  pub program_read : (r : Result Contents AcceptError) → IfOk r (λ p. (faults s ≡ []) × (plain p ≡ program_of s))
+      → IfOk r (λ p. IsProgramOf text (plain p))
+  program_read (Ok p) h = record { short = short; source = s; is = is; faultless = h.0; program_is = h.1 }
+  program_read (Err e) h = tt
 
-      -- or its first refusal is that of the text
-      pub answer_refused : (program : Contents) (e : AcceptError) → plain program ≡ program_of s
-          → IsFound (IsFirstOf program_trials) (plain program) e → IsRefused text e
-      answer_refused program e same h = program_refused e (subst (λ p. IsFound (IsFirstOf program_trials) p e) same h)
+  pub fault_read : (r : Result Contents AcceptError) → IfErr r (IsFaultTold s) → IfErr r (IsUnread text)
+  fault_read (Ok p) h = tt
+  fault_read (Err e) h = fault_refused text short laws s is e h
+
+-- what is refused of a text and of its source is its first refusal
+pub unread_refused : (text : List ℕ) (e : AcceptError) → IsUnread text e → IsRefused text e
+unread_refused text (A.Refused r) h = first_then text_trials (of_source program_trials) text r h
+unread_refused text A.Memory h = tt
+
+-- A program, and the text whose source it is.
+module _ (laws : Laws) (text : List ℕ) (p : ProgramCode) (is : IsProgramOf text p) where
+  -- the first refusal of the program is that of the text
+  pub first_of_text : (ts : Trials ProgramCode) (r : Refusal) → IsFirstOf ts p r → IsFirstOf (then_ text_trials (of_source ts)) text r
+  first_of_text ts r h =
+      first_in text is.short laws is.source is.is is.faultless ts r (subst (λ q. IsFirstOf ts q r) is.program_is h)
+
+  -- and where the program has none, the text has none
+  pub passes_of_text : (ts : Trials ProgramCode) → PassesAll ts p → PassesAll (then_ text_trials (of_source ts)) text
+  passes_of_text ts passes =
+      passes_in text is.short laws is.source is.is is.faultless ts (subst (PassesAll ts) is.program_is passes)
+
+  -- an error of the program is one of the text
+  pub program_refused : (e : AcceptError) → IsFound (IsFirstOf program_trials) p e → IsRefused text e
+  program_refused (A.Refused r) h = first_of_text program_trials r h
+  program_refused A.Memory h = tt
+
+-- what is made of the program of a text is made of the text
+module _ (laws : Laws) (text : List ℕ) (program : Contents) (is : IsProgramOf text (plain program)) where
+  pub is_built : (b : Built) (order : List Comm) (labels : List ℕ) (steps : ℕ)
+      → PassesAll program_trials (plain program) → IsJudged (plain program) order labels steps
+      → b.program ≡ program → b.order ≡ order → b.image ≡ image_of (plain program) labels → IsBuilt text b
+  is_built b order labels steps passes judged keeps orders images =
+      let at : plain b.program ≡ plain program = ap plain keeps in
+      let bounded : steps ≡ b.image.bound = judged.bound_is ∙ sym (ap (λ (i : Image). i.bound) images) in
+      let counted : IsJudged (plain program) order labels b.image.bound =
+      subst (λ n. IsJudged (plain program) order labels n) bounded judged in
+      let ordered : IsJudged (plain program) b.order labels b.image.bound =
+      subst (λ o. IsJudged (plain program) o labels b.image.bound) (sym orders) counted in
+      record {
+        accepts = passes_of_text laws text (plain program) is program_trials passes;
+        source = is.source;
+        is = is.is;
+        program_is = at ∙ is.program_is;
+        labels = labels;
+        judged = subst (λ p. IsJudged p b.order labels b.image.bound) (sym at) ordered;
+        image_is = images ∙ ap (λ p. image_of p labels) (sym at);
+      }
 
 -- what holds of an error holds where it is handed on
 pub handed_on : {V : Type 0} (P : AcceptError → Type 0) (r : Result V AcceptError) (e : AcceptError) → IsErrAnd r (λ x. x ≡ e) → P e

@@ -34,7 +34,7 @@ use Rattle.crossing_off.specs.Greedy.{left, IsCrossed}
 use Rattle.queue_plan.specs.declared.lack.Lack.{Lack}
 use Rattle.refusals.specs.declared.refusal.Refusal.{Refusal}
 use Rattle.refusals.specs.declared.refusal.Refusal.TheVariants as R
-use Rattle.accept.specs.FirstRefusal.{IsStalled, StopsShort, Trials, label_trials, program_trials, IsFirstOf, PassesAll, FirstRefusal, Accepts}
+use Rattle.accept.specs.FirstRefusal.{IsStalled, StopsShort, Trials, of_source, text_trials, cell_trials, naming_trials, room_trials, label_trials, program_trials, IsFirstOf, PassesAll, FirstRefusal, Accepts}
 use Rattle.accept.specs.Labelled.{IsLabelled, AreLabels, has_label, first_unlabelled, lacks_of, members_of}
 use Rattle.accept.specs.bodies.Laws.{Existence, Laws}
 use Rattle.accept.specs.Source.{IsSource}
@@ -42,7 +42,8 @@ use Rattle.accept.specs.Told.{static_refusal, walk_lines, fall_refusal, lack_ref
 use Rattle.accept.specs.declared.building.AcceptError.TheVariants as A
 use Rattle.accept.proofs.Judged.{costly_first, unlike_first, stalled_first, lacking_first, falling_first, few_first, over_first, passes, not_costly, not_unlike}
 use Rattle.accept.proofs.OneRefusal.{stalling}
-use Rattle.accept.proofs.Refused.{long_refused, misspelt_refused, misplaced_refused, fault_refused, program_refused, accepts_of}
+use Rattle.accept.proofs.Refused.{long_refused, misspelt_refused, misplaced_refused, fault_refused, first_in, passes_in}
+use Rattle.accept.proofs.Trials.{first_then}
 
 -- None of the trials applies, or there is a first that does.
 abbrev Tried : {A : Type 0} → Trials A → A → Type 0
@@ -134,7 +135,7 @@ module _ (laws : Laws) (exist : Existence) where
         (λ consistent. with_consistent labels are consistent (lacks_of p labels) refl)
         (λ found.
         let r : Refusal = fall_refusal p labels found.0 in
-        inr (r, falling_first laws p labels are (A.Refused r) (labels, are, found.0, found.1, refl)))
+        inr (r, first_then naming_trials room_trials p r (falling_first laws p labels are (A.Refused r) (labels, are, found.0, found.1, refl))))
         (exist.fall (sequences_of p).lists labels)
 
     -- labels that the source gives to some messages
@@ -143,7 +144,10 @@ module _ (laws : Laws) (exist : Existence) where
         let all = all_labels p.messages none in
         with_labels all.0 (record { given = λ _. all.1; proposed = λ never. absurd (never some) })
     given some (Some name) first =
-        inr (R.SomeLabels name, lacking_first laws p (A.Refused (R.SomeLabels name)) (some, first))
+        inr (
+          R.SomeLabels name,
+          first_then naming_trials room_trials p (R.SomeLabels name) (lacking_first laws p (A.Refused (R.SomeLabels name)) (some, first)),
+        )
 
     -- labels, queues and the bound
     labels_tried : IsSequences (sequences_of p) → Tried label_trials p
@@ -182,7 +186,10 @@ module _ (laws : Laws) (exist : Existence) where
             some = some;
             no_order = λ other is. absurd (omega (arith, some, exist.emptied s p.buffer other order sequences is rule));
           } in
-          inr (r, stalled_first laws p few alike (A.Refused r) (order, stuck, refl, walk.0, walk.1, walk.2, refl))
+          inr (
+            r,
+            first_then cell_trials label_trials p r (stalled_first laws p few alike (A.Refused r) (order, stuck, refl, walk.0, walk.1, walk.2, refl)),
+          )
 
       -- crossing-off, labels, queues and the bound
       with_order : Tried program_trials p
@@ -204,13 +211,16 @@ module _ (laws : Laws) (exist : Existence) where
         let order = exist.order (sequences_of p) p.buffer sequences in
         with_order few alike sequences order.0 order.1
     with_few sound few ((cell, line) ∷ rest) differ =
-        inr (R.ArmsDiffer line, unlike_first laws p few (C.ArmsDiffer cell line) (ap (λ ds. slice_get ds 0) differ))
+        inr (
+          R.ArmsDiffer line,
+          first_then cell_trials label_trials p (R.ArmsDiffer line) (unlike_first laws p few (C.ArmsDiffer cell line) (ap (λ ds. slice_get ds 0) differ)),
+        )
 
     -- a program without a refusal, or its first one
     program_tried : IsSound p → Tried program_trials p
     program_tried sound =
         ⊎_elim
-        (λ many. inr (R.CellSteps, costly_first laws p many))
+        (λ many. inr (R.CellSteps, first_then cell_trials label_trials p R.CellSteps (costly_first laws p many)))
         (λ few. with_few sound few (all_differing p) refl)
         (cases_lt STEPS (cells_cost p))
 
@@ -219,20 +229,24 @@ module _ (laws : Laws) (exist : Existence) where
   Judged text = Accepts text ⊎ ((r : Refusal) × FirstRefusal text r)
 
   module _ (text : List ℕ) (short : length text ≤ SOURCE_BYTES) where
+    -- what is refused of the text and of its source is its first refusal
+    early : (r : Refusal) → IsFirstOf text_trials text r → FirstRefusal text r
+    early r h = first_then text_trials (of_source program_trials) text r h
+
     -- the refusal of what the lexer finds wrong
     misspelt_text : (e : LexError) → FirstFault text e → Judged text
-    misspelt_text (L.BadByte at) h = inr (R.BadByte at, misspelt_refused text short (L.BadByte at) (inl h))
-    misspelt_text (L.BigNumber line) h = inr (R.BigNumber line, misspelt_refused text short (L.BigNumber line) (inl h))
-    misspelt_text (L.LongName line) h = inr (R.LongName line, misspelt_refused text short (L.LongName line) (inl h))
+    misspelt_text (L.BadByte at) h = inr (R.BadByte at, early (R.BadByte at) (misspelt_refused text short (L.BadByte at) (inl h)))
+    misspelt_text (L.BigNumber line) h = inr (R.BigNumber line, early (R.BigNumber line) (misspelt_refused text short (L.BigNumber line) (inl h)))
+    misspelt_text (L.LongName line) h = inr (R.LongName line, early (R.LongName line) (misspelt_refused text short (L.LongName line) (inl h)))
     misspelt_text L.Memory h = absurd (no_memory text h)
 
     module _ (ts : List Token) (lexed : TokensOf text ts) where
       -- the refusal of the first token over a limit
       over_text : (e : ParseError) → FirstOver ts e → Judged text
       over_text (P.LongPiece line) h =
-          inr (R.LongPiece line, misplaced_refused text short laws.apart laws.tokens ts lexed (P.LongPiece line) h)
+          inr (R.LongPiece line, early (R.LongPiece line) (misplaced_refused text short laws.apart laws.tokens ts lexed (P.LongPiece line) h))
       over_text (P.Braces line) h =
-          inr (R.Braces line, misplaced_refused text short laws.apart laws.tokens ts lexed (P.Braces line) h)
+          inr (R.Braces line, early (R.Braces line) (misplaced_refused text short laws.apart laws.tokens ts lexed (P.Braces line) h))
       over_text (P.Unexpected line column) h = absurd (never_misplaced ts line column h)
       over_text P.Memory h = absurd (never_memory ts h)
 
@@ -248,12 +262,12 @@ module _ (laws : Laws) (exist : Existence) where
             (λ none.
             let sound = exist.sound s (exist.printable text ts s lexed kept reads) none in
             ⊎_elim
-            (λ all. inl (accepts_of text short laws s is_source none all))
-            (λ first. inr (first.0, program_refused text short laws s is_source none (A.Refused first.0) first.1))
+            (λ all. inl (passes_in text short laws s is_source none program_trials all))
+            (λ first. inr (first.0, first_in text short laws s is_source none program_trials first.0 first.1))
             (program_tried (program_of s) sound))
             (λ fault.
             let r = told s.cols fault.0 fault.2 in
-            inr (r.0, fault_refused text short laws s is_source (A.Refused r.0) (fault.0, fault.1, r.1)))
+            inr (r.0, early r.0 (fault_refused text short laws s is_source (A.Refused r.0) (fault.0, fault.1, r.1))))
             (exist.fault s)
 
       -- a text with tokens that keep the limits
@@ -263,7 +277,8 @@ module _ (laws : Laws) (exist : Existence) where
           (λ source. source_text kept source.0 source.1)
           (λ wrong. inr (
             R.Unexpected wrong.0 wrong.1,
-            misplaced_refused text short laws.apart laws.tokens ts lexed (P.Unexpected wrong.0 wrong.1) wrong.2,
+            early (R.Unexpected wrong.0 wrong.1)
+                (misplaced_refused text short laws.apart laws.tokens ts lexed (P.Unexpected wrong.0 wrong.1) wrong.2),
           ))
           (exist.source text ts kept)
 
@@ -278,5 +293,5 @@ module _ (laws : Laws) (exist : Existence) where
   -- every text is accepted or has a first refusal
   pub tried : (text : List ℕ) → Judged text
   tried text =
-      ⊎_elim (λ long. inr (R.LongSource, long_refused text long)) (λ short. short_text text short)
+      ⊎_elim (λ long. inr (R.LongSource, first_then text_trials (of_source program_trials) text R.LongSource (long_refused text long))) (λ short. short_text text short)
       (cases_lt SOURCE_BYTES (length text))

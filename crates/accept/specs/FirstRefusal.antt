@@ -116,20 +116,37 @@ pub data Trials (A : Type 0) : Type 1 where
   Passed : Trials A
   Try : (Applies : A → Refusal → Type 0) → (rest : Trials A) → Trials A
 
+-- some trials, and then others
+abbrev pub then_ : {A : Type 0} → Trials A → Trials A → Trials A
+then_ Passed others = others
+then_ (Try Applies rest) others = Try Applies (then_ rest others)
+
+-- the refusals of what the cells of a program do
+abbrev pub cell_trials : Trials ProgramCode
+cell_trials =
+    Try IsCostly (
+    Try HasUnlikeArms (
+    Try IsStalled Passed))
+
+-- the refusals of a program's labels alone
+abbrev pub naming_trials : Trials ProgramCode
+naming_trials =
+    Try HasSomeLabels (
+    Try HasFallingLabels Passed)
+
+-- the refusals of what a program takes of the array: of its queues and its bound
+abbrev pub room_trials : Trials ProgramCode
+room_trials =
+    Try HasTooFewQueues (
+    Try IsOverBound Passed)
+
 -- the refusals of a program's labels, queues and bound
 abbrev pub label_trials : Trials ProgramCode
-label_trials =
-    Try HasSomeLabels (
-    Try HasFallingLabels (
-    Try HasTooFewQueues (
-    Try IsOverBound Passed)))
+label_trials = then_ naming_trials room_trials
 
 -- the refusals of a program
 abbrev pub program_trials : Trials ProgramCode
-program_trials =
-    Try IsCostly (
-    Try HasUnlikeArms (
-    Try IsStalled label_trials))
+program_trials = then_ cell_trials label_trials
 
 -- The refusal applies to the program of the text's source.
 abbrev pub OfSource : (ProgramCode → Refusal → Type 0) → List ℕ → Refusal → Type 0
@@ -140,15 +157,22 @@ abbrev pub of_source : Trials ProgramCode → Trials (List ℕ)
 of_source Passed = Passed
 of_source (Try Applies rest) = Try (OfSource Applies) (of_source rest)
 
--- the refusals of a text: of what it is, of its source, and of the program of its source
-abbrev pub trials : Trials (List ℕ)
-trials =
+-- the refusals of what a text is, and of its source
+abbrev pub text_trials : Trials (List ℕ)
+text_trials =
     Try IsLong (
     Try IsMisspelt (
     Try IsOver (
     Try IsMisplaced (
-    Try IsFaulty (
-    of_source program_trials)))))
+    Try IsFaulty Passed))))
+
+-- the refusals of a text: of what it is, of its source, and of the program of its source
+abbrev pub trials : Trials (List ℕ)
+trials = then_ text_trials (of_source program_trials)
+
+-- the refusals of a text but for those of its queues and its bound
+abbrev pub need_trials : Trials (List ℕ)
+need_trials = then_ text_trials (of_source (then_ cell_trials naming_trials))
 
 -- The first of the trials that applies gives this refusal.
 abbrev pub IsFirstOf : {A : Type 0} → Trials A → A → Refusal → Type 0

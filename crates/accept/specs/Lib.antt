@@ -5,3 +5,4 @@ pub mod Labelled
 pub mod FirstRefusal
 pub mod Built
 pub mod Image
+pub mod Needs

@@ -2,3 +2,4 @@
 pub mod Answers
 pub mod Laws
 pub mod Reading
+pub mod Needing

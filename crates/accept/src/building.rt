@@ -3,7 +3,7 @@ ghost use Rattle.cell_tree.specs.Printable.{IsPrintable};
 ghost use Rattle.cell_types.specs.Faults.{faults};
 ghost use Rattle.cell_types.specs.Resolved.{program_of};
 ghost use Rattle.cell_types.specs.Typed.{plain};
-ghost use Rattle.accept.specs.bodies.Answers.{IsFaultTold};
+ghost use Rattle.accept.specs.bodies.Answers.{IsFaultTold, IsProgramOf, IsUnread};
 ghost use Rattle.accept.specs.Built.{DoesAsItSays, IsBuilt, IsRefused};
 ghost use Rattle.accept.specs.Source.{IsSource};
 
@@ -56,16 +56,25 @@ pub fn build(alloc: Global, text: &[u8]) -> Result<Built, AcceptError>
     ensures built { IfOk result (IsBuilt text.now) }
     ensures refused { IfErr result (IsRefused text.now) }
 {
+    laws_below();
+    code_laws_below();
+    accepted_programs_are_faithful();
+    let program = program_in(alloc, text)?;
+    let accepted = judged(alloc, program)?;
+    Ok(imaged(alloc, accepted)?)
+}
+
+/// The program of the source that a text is, or the first refusal of the text and of its source.
+pub(crate) fn program_in(alloc: Global, text: &[u8]) -> Result<Program, AcceptError>
+    ensures program { IfOk result (λ p. IsProgramOf text.now (plain p)) }
+    ensures refused { IfErr result (IsUnread text.now) }
+{
     if text.len() > SOURCE_BYTES {
         return Err(AcceptError::Refused(Refusal::LongSource));
     }
     laws_below();
-    code_laws_below();
-    accepted_programs_are_faithful();
     let source = read(alloc, text)?;
-    let program = resolved(alloc, source)?;
-    let accepted = judged(alloc, program)?;
-    Ok(imaged(alloc, accepted)?)
+    resolved(alloc, source)
 }
 
 /// The source that a text is, or its first refusal.
@@ -73,7 +82,7 @@ fn read(alloc: Global, text: &[u8]) -> Result<Source, AcceptError>
     requires { length text.now ≤ SOURCE_BYTES }
     ensures source { IfOk result (IsSource text.now) }
     ensures printable { IfOk result IsPrintable }
-    ensures refused { IfErr result (IsRefused text.now) }
+    ensures refused { IfErr result (IsUnread text.now) }
 {
     laws_below();
     let tokens = tokens(alloc, text)?;

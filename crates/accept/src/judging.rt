@@ -4,6 +4,7 @@ ghost use Rattle.cell_types.specs.Cost.{cells_cost};
 ghost use Rattle.cell_types.specs.Groups.{lengths_of};
 ghost use Rattle.cell_types.specs.Sound.{IsSound};
 ghost use Rattle.cell_types.specs.Typed.{plain};
+ghost use Rattle.comm_sequence.specs.Labels.{IsConsistent};
 ghost use Rattle.comm_sequence.specs.Sequences.{sequences_of};
 ghost use Rattle.comm_sequence.specs.declared.comm.Comm.{Comm};
 ghost use Rattle.crossing_off.specs.Answer.{IsEmpty};
@@ -11,7 +12,8 @@ ghost use Rattle.queue_plan.specs.Grouping.{all_groups};
 ghost use Rattle.refusals.specs.declared.refusal.Refusal.TheVariants as R;
 ghost use Rattle.accept.specs.bodies.Answers.{IsFound};
 ghost use Rattle.accept.specs.Built.{IsJudged};
-ghost use Rattle.accept.specs.FirstRefusal.{IsFirstOf, IsStalled, PassesAll, label_trials, program_trials};
+ghost use Rattle.accept.specs.FirstRefusal.{IsFirstOf, IsStalled, PassesAll, cell_trials, label_trials, naming_trials, program_trials};
+ghost use Rattle.accept.specs.Labelled.{AreLabels};
 ghost use Rattle.accept.specs.declared.building.AcceptError.TheVariants as A;
 
 use crate::bound::bound_of;
@@ -26,7 +28,18 @@ use crossing_off::{Crossed, cross};
 use queue_plan::Groups;
 use refusals::Refusal;
 use std::alloc::Global;
-use sys_base::{Items, STEPS};
+use sys_base::{Items, MESSAGES, STEPS};
+
+/// What the cells of a program do, where it has an order for its buffer.
+#[derive(Drop)]
+pub(crate) struct CellWork {
+    /// The writes and reads of each cell.
+    pub seqs: Seqs,
+    /// The steps that all cells take.
+    pub steps: u32,
+    /// All writes and reads in the order in which they are crossed off.
+    pub order: Items<Comm>,
+}
 
 /// A program without a refusal, and what its image is made of.
 #[derive(Drop)]
@@ -56,12 +69,7 @@ pub fn judged(alloc: Global, program: Program) -> Result<Accepted, AcceptError>
         j.plan.groups ≡ all_groups (plain program) j.plan.labels.items (lengths_of (plain program))) }
     ensures refused { IfErr result (IsFound (IsFirstOf program_trials) (plain program)) }
 {
-    laws_below();
-    let Some(steps) = cost(&program) else {
-        return Err(AcceptError::Refused(Refusal::CellSteps));
-    };
-    let seqs = sequences(alloc, &program)?;
-    let order = crossing_order(alloc, &program, &seqs)?;
+    let CellWork { seqs, steps, order } = ordered(alloc, &program)?;
     let plan = planned(alloc, &program, &seqs, steps)?;
     Ok(Accepted {
         program,
@@ -69,6 +77,24 @@ pub fn judged(alloc: Global, program: Program) -> Result<Accepted, AcceptError>
         order,
         plan,
     })
+}
+
+/// What the cells of a program do, or the first refusal of that.
+pub fn ordered(alloc: Global, program: &Program) -> Result<CellWork, AcceptError>
+    ensures seqs { IfOk result (λ o. o.seqs ≡ sequences_of (plain program.now)) }
+    ensures steps { IfOk result (λ o. (o.steps ≡ cells_cost (plain program.now)) × (o.steps ≤ STEPS)) }
+    ensures empty { IfOk result (λ o. IsEmpty (sequences_of (plain program.now)) program.now.buffer o.order) }
+    ensures passes { IfOk result (λ _. PassesAll cell_trials (plain program.now)) }
+    ensures refused { IfErr result (IsFound (IsFirstOf cell_trials) (plain program.now)) }
+{
+    prove!(program.messages().len() <= MESSAGES);
+    laws_below();
+    let Some(steps) = cost(program) else {
+        return Err(AcceptError::Refused(Refusal::CellSteps));
+    };
+    let seqs = sequences(alloc, program)?;
+    let order = crossing_order(alloc, program, &seqs)?;
+    Ok(CellWork { seqs, steps, order })
 }
 
 /// The labels, the groups and the bound of a program whose cells take this number of steps, or the first refusal of its
@@ -87,8 +113,7 @@ fn planned(alloc: Global, program: &Program, seqs: &Seqs, steps: u32) -> Result<
     ensures refused { IfErr result (IsFound (IsFirstOf label_trials) (plain program.now)) }
 {
     laws_below();
-    let labels = labels_of(alloc, program, seqs)?;
-    never_fall(program, seqs, &labels)?;
+    let labels = labelled(alloc, program, seqs)?;
     let groups = fitting_groups(alloc, program, seqs, &labels)?;
     let sum = bound_of(program, seqs, &groups, steps);
     let bound = limited(sum)?;
@@ -97,6 +122,22 @@ fn planned(alloc: Global, program: &Program, seqs: &Seqs, steps: u32) -> Result<
         groups,
         bound,
     })
+}
+
+/// The labels of a program, which never fall, or their first refusal.
+pub fn labelled(alloc: Global, program: &Program, seqs: &Seqs) -> Result<Vec<u16>, AcceptError>
+    requires seqs { seqs.now ≡ sequences_of (plain program.now) }
+    ensures labels { IfOk result (λ labels. AreLabels (plain program.now) labels.items) }
+    ensures each { IfOk result (λ labels. length labels.items ≡ length program.now.messages) }
+    ensures consistent { IfOk result
+        (λ labels. IsConsistent (sequences_of (plain program.now)).lists labels.items) }
+    ensures passes { IfOk result (λ _. PassesAll naming_trials (plain program.now)) }
+    ensures refused { IfErr result (IsFound (IsFirstOf naming_trials) (plain program.now)) }
+{
+    laws_below();
+    let labels = labels_of(alloc, program, seqs)?;
+    never_fall(program, seqs, &labels)?;
+    Ok(labels)
 }
 
 /// The order of the greedy rule for the program's buffer, or the refusal of a program that has no order for it.

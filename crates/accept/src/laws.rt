@@ -1,8 +1,15 @@
-ghost use Rattle.std.specs.Prelude.{◌≡◌, ◌⊎◌, ℕ, List};
-ghost use Rattle.cell_code.specs.Images.{IsListed};
+ghost use Rattle.std.specs.Prelude.{◌≡◌, ◌≤◌, ◌⊎◌, ℕ, List};
+ghost use Rattle.sys_base.specs.declared.limits.TheConstants.{STEPS};
+ghost use Rattle.cell_code.specs.Images.{IsListed, IsShaped};
 ghost use Rattle.cell_code.specs.declared.image.Image.{Image};
 ghost use Rattle.cell_tree.specs.declared.source.Source.{Source};
+ghost use Rattle.cell_types.specs.Alike.{Alike};
+ghost use Rattle.cell_types.specs.Cost.{cells_cost};
 ghost use Rattle.cell_types.specs.Resolved.{program_of};
+ghost use Rattle.cell_types.specs.Typed.{plain};
+ghost use Rattle.comm_sequence.specs.BufferedOrder.{IsBufferedOrder};
+ghost use Rattle.comm_sequence.specs.Sequences.{sequences_of};
+ghost use Rattle.comm_sequence.specs.declared.comm.Comm.{Comm};
 ghost use Rattle.program_image.specs.Faithful.{IsFaithful};
 ghost use Rattle.program_image.specs.ImageOf.{image_of};
 ghost use Rattle.refusals.specs.declared.refusal.Refusal.{Refusal};
@@ -21,7 +28,7 @@ use cell_types::few_instructions;
 use comm_sequence::{alike_where_none_differ, sound_programs_have_sequences};
 use crossing_off::{nothing_left_is_an_order, one_greedy_order, one_walk, orders_leave_nothing};
 use labelling::{consistent_or_fall, one_proposal, some_proposal};
-use program_image::{images_are_faithful, images_are_listed};
+use program_image::{images_are_faithful, images_are_listed, images_are_shaped};
 use queue_plan::groups_by_link;
 
 /// A law: a text has at most one first refusal, and none where it is accepted.
@@ -54,10 +61,30 @@ pub fn accepted_programs_are_faithful()
     images_are_faithful();
 }
 
-/// A law: a text has at most one image, and what is built of a text has its image.
+/// A law: the program of a text without a refusal has all that its meaning is asked with. Its arms communicate alike,
+/// the steps of its cells are within the limit, and all writes and reads have an order for its buffer.
+pub fn accepted_programs_are_alike()
+    ensures alike { (text : List ℕ) (source : Source) → Accepts text → IsSource text source
+        → Alike (program_of source) }
+    ensures cost { (text : List ℕ) (source : Source) → Accepts text → IsSource text source
+        → cells_cost (program_of source) ≤ STEPS }
+    ensures order { (text : List ℕ) (source : Source) → Accepts text → IsSource text source
+        → (order : List Comm) × IsBufferedOrder (sequences_of (program_of source)).lists
+        (sequences_of (program_of source)).ends (program_of source).buffer order }
+{
+    laws_below();
+    existence_below();
+    nothing_left_is_an_order();
+}
+
+/// A law: a text has at most one image, and its images are of one program; and what is built of a text has its image
+/// and that program.
 pub fn one_image()
     ensures one { (text : List ℕ) (a b : Image) → IsImageOf text a → IsImageOf text b → a ≡ b }
-    ensures built { (text : List ℕ) (b : Built) → IsBuilt text b → IsImageOf text b.image }
+    ensures program { (text : List ℕ) (a b : Image) (x : IsImageOf text a) (y : IsImageOf text b)
+        → program_of x.source ≡ program_of y.source }
+    ensures built { (text : List ℕ) (b : Built) → IsBuilt text b
+        → (is : IsImageOf text b.image) × (plain b.program ≡ program_of is.source) }
 {
     laws_below();
 }
@@ -70,8 +97,9 @@ pub fn some_image()
     existence_below();
 }
 
-/// A law: the image of a text can be written, and it does what the program of the text says.
+/// A law: the image of a text has the shape of one and can be written, and it does what the program of the text says.
 pub fn images_do_as_they_say()
+    ensures shaped { (text : List ℕ) (image : Image) → IsImageOf text image → IsShaped image }
     ensures listed { (text : List ℕ) (image : Image) → IsImageOf text image → IsListed image }
     ensures faithful { (text : List ℕ) (image : Image) (is : IsImageOf text image)
         → IsFaithful (program_of is.source) is.labels image }
@@ -80,6 +108,7 @@ pub fn images_do_as_they_say()
     existence_below();
     accepted_programs_are_faithful();
     images_are_listed();
+    images_are_shaped();
 }
 
 /// The laws of the layers below by which there is at most one of each thing.
@@ -106,7 +135,7 @@ pub(crate) fn code_laws_below()
 }
 
 /// The laws of the layers below by which there is one of each thing.
-fn existence_below()
+pub(crate) fn existence_below()
     ensures { Existence }
 {
     cell_lexer::some_outcome();

@@ -34,11 +34,27 @@ pub fn fitting_groups(
     ensures enough { IfOk result (λ groups. lacks_of (plain program.now) labels.now ≡ []) }
     ensures refused { IfErr result (IsFound HasTooFewQueues (plain program.now)) }
 {
-    let groups = group(alloc, program, labels, &lengths(alloc, seqs)?)?;
+    let groups = link_groups(alloc, program, seqs, labels)?;
     match groups.lack(program) {
         None => Ok(groups),
         Some(lack) => Err(AcceptError::Refused(lack_refusal(alloc, program, &groups, lack)?)),
     }
+}
+
+/// The groups of the links.
+pub fn link_groups(
+    alloc: Global,
+    program: &Program,
+    seqs: &Seqs,
+    labels: &[u16],
+) -> Result<Groups, Memory>
+    requires seqs { seqs.now ≡ sequences_of (plain program.now) }
+    requires each { length labels.now ≡ length program.now.messages }
+    ensures groups { IfOk result (λ groups.
+        groups ≡ all_groups (plain program.now) labels.now (lengths_of (plain program.now))) }
+    ensures links { IfOk result (λ groups. length groups ≡ length program.now.queues) }
+{
+    group(alloc, program, labels, &lengths(alloc, seqs)?)
 }
 
 /// The length of each message.

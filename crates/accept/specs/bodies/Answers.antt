@@ -1,10 +1,12 @@
 -- What the parts of acceptance answer, each of a source or a program.
-use Rattle.std.specs.Prelude.{ℕ, ◌≡◌, ◌<◌, List, [], find, length, nat_eq, slice_get, All, Some}
+use Rattle.std.specs.Prelude.{ℕ, ◌≡◌, ◌<◌, ◌≤◌, List, [], find, length, nat_eq, slice_get, All, Some}
 use Rattle.std.specs.Option.{option_map_or}
 use Rattle.sys_base.specs.Grid.{cell_count}
+use Rattle.sys_base.specs.declared.limits.TheConstants.{SOURCE_BYTES}
 use Rattle.cell_tree.specs.declared.source.Source.{Source}
 use Rattle.cell_types.specs.Code.{ProgramCode}
 use Rattle.cell_types.specs.Faults.{faults}
+use Rattle.cell_types.specs.Resolved.{program_of}
 use Rattle.cell_types.specs.declared.error.StaticError.{StaticError}
 use Rattle.cell_types.specs.declared.program.Message.{Message}
 use Rattle.comm_sequence.specs.Sequences.{message_of}
@@ -15,7 +17,9 @@ use Rattle.labelling.specs.declared.falls.Fall.{Fall}
 use Rattle.queue_plan.specs.Grouping.{groups_at}
 use Rattle.refusals.specs.declared.refusal.Refusal.{Refusal}
 use Rattle.refusals.specs.declared.refusal.Refusal.TheVariants as R
+use Rattle.accept.specs.FirstRefusal.{IsFirstOf, text_trials}
 use Rattle.accept.specs.Labelled.{first_unlabelled}
+use Rattle.accept.specs.Source.{IsSource}
 use Rattle.accept.specs.Told.{static_refusal}
 use Rattle.accept.specs.declared.building.AcceptError.{AcceptError}
 use Rattle.accept.specs.declared.building.AcceptError.TheVariants as A
@@ -41,6 +45,19 @@ IsEndOf program (NothingLeft cell) = cell < cell_count program.grid
 abbrev pub IsFound : (ProgramCode → Refusal → Type 0) → ProgramCode → AcceptError → Type 0
 IsFound Applies program (A.Refused r) = Applies program r
 IsFound Applies program A.Memory = Unit {0}
+
+-- The error is the first refusal of the text and of its source, or memory ran out.
+abbrev pub IsUnread : List ℕ → AcceptError → Type 0
+IsUnread text (A.Refused r) = IsFirstOf text_trials text r
+IsUnread text A.Memory = Unit {0}
+
+-- The text and its source have no refusal, and this is the program of the source.
+pub record IsProgramOf (text : List ℕ) (program : ProgramCode) : Type 0 where
+  pub short : length text ≤ SOURCE_BYTES
+  pub source : Source
+  pub is : IsSource text source
+  pub faultless : faults source ≡ []
+  pub program_is : program ≡ program_of source
 
 -- The name is that of the first message without a label, or memory ran out.
 abbrev pub IsUnlabelled : List Message → AcceptError → Type 0

@@ -1,11 +1,8 @@
 use Rattle.std.proofs.Common.{◌≡◌, ℕ, List, [], ◌∷◌, Option, None, Some, length, slice_get, refl, sym, ap, subst, ◌∙◌}
-use Rattle.std.proofs.lemmas.List.FromFn.{length-map-range_with_len}
 use Rattle.std.proofs.lemmas.Option.{none-some}
 use Rattle.cell_types.specs.Code.{ProgramCode}
-use Rattle.cell_types.specs.Communications.{length_of}
 use Rattle.cell_types.specs.Groups.{lengths_of}
 use Rattle.cell_types.specs.Typed.{plain}
-use Rattle.comm_sequence.specs.Sequences.{Sequences, sequences_of}
 use Rattle.queue_plan.specs.Grouping.{all_groups}
 use Rattle.queue_plan.specs.Lacks.{lacks}
 use Rattle.queue_plan.specs.declared.lack.Lack.{Lack}
@@ -14,15 +11,6 @@ use Rattle.accept.specs.Labelled.{lacks_of}
 use Rattle.accept.specs.Told.{lack_refusal}
 use Rattle.accept.proofs.FirstLack.{all_known, count_links, first_lack}
 use Rattle.accept.proofs.queues.fitting_groups.Goals as goal
-
--- the lengths of the sequences of a program are those of its messages
-same_lengths : (p : ProgramCode) (s : Sequences) (lengths : List ℕ) → lengths ≡ s.lengths → s ≡ sequences_of p → lengths ≡ lengths_of p
-same_lengths p s lengths all of = all ∙ ap (λ (t : Sequences). t.lengths) of
-
--- the groups by those lengths
-same_groups : (p : ProgramCode) (s : Sequences) (labels lengths : List ℕ) (links : List (List (ℕ × List ℕ)))
-    → links ≡ all_groups p labels lengths → lengths ≡ s.lengths → s ≡ sequences_of p → links ≡ all_groups p labels (lengths_of p)
-same_groups p s labels lengths links is all of = is ∙ ap (all_groups p labels) (same_lengths p s lengths all of)
 
 -- the first lack of equal groups
 same_first : (p : ProgramCode) (labels : List ℕ) (links : List (List (ℕ × List ℕ))) (first : Option Lack)
@@ -35,20 +23,11 @@ none_first : (xs : List Lack) → slice_get xs 0 ≡ None → xs ≡ []
 none_first [] is = refl
 none_first (x ∷ xs) is = absurd (none-some x (sym is))
 
-pub group-requires-clause-lengths : goal.group-requires-clause-lengths
-group-requires-clause-lengths c =
-    let p = plain c.args.program.now in
-    ap length
-    (same_lengths p c.args.seqs.now c.deref.result.now (c.deref.ensures.value ∙ c.in_ok-lengths.ensures) c.requires.seqs)
-    ∙ length-map-range_with_len (length_of p) 0 (length p.messages)
-
 pub lack_refusal-requires-clause-link : goal.lack_refusal-requires-clause-link
 lack_refusal-requires-clause-link c =
     let p = plain c.args.program.now in
     let labels = c.args.labels.now in
-    let same =
-    same_groups p c.args.seqs.now labels c.deref.result.now c.in_ok-groups.groups c.in_ok-groups.ensures.groups
-    (c.deref.ensures.value ∙ c.in_ok-lengths.ensures) c.requires.seqs in
+    let same = c.in_ok-groups.ensures.groups in
     let lacked =
     first_lack p labels c.in-Some.lack
     (same_first p labels c.in_ok-groups.groups (Some c.in-Some.lack) same c.in-Some.ensures.lack) in
@@ -58,9 +37,7 @@ pub lack_refusal-requires-clause-links : goal.lack_refusal-requires-clause-links
 lack_refusal-requires-clause-links c =
     let p = plain c.args.program.now in
     let labels = c.args.labels.now in
-    let same =
-    same_groups p c.args.seqs.now labels c.deref.result.now c.in_ok-groups.groups c.in_ok-groups.ensures.groups
-    (c.deref.ensures.value ∙ c.in_ok-lengths.ensures) c.requires.seqs in
+    let same = c.in_ok-groups.ensures.groups in
     ap length same ∙ count_links p labels
 
 pub lack_refusal-requires-clause-known : goal.lack_refusal-requires-clause-known
@@ -68,9 +45,7 @@ lack_refusal-requires-clause-known c =
     let p = plain c.args.program.now in
     let labels = c.args.labels.now in
     let link = c.in-Some.lack.link in
-    let same =
-    same_groups p c.args.seqs.now labels c.deref.result.now c.in_ok-groups.groups c.in_ok-groups.ensures.groups
-    (c.deref.ensures.value ∙ c.in_ok-lengths.ensures) c.requires.seqs in
+    let same = c.in_ok-groups.ensures.groups in
     let lacked =
     first_lack p labels c.in-Some.lack
     (same_first p labels c.in_ok-groups.groups (Some c.in-Some.lack) same c.in-Some.ensures.lack) in
@@ -80,9 +55,7 @@ pub returns-in-None-clause-enough : goal.returns-in-None-clause-enough
 returns-in-None-clause-enough c =
     let p = plain c.args.program.now in
     let labels = c.args.labels.now in
-    let same =
-    same_groups p c.args.seqs.now labels c.deref.result.now c.in_ok-groups.groups c.in_ok-groups.ensures.groups
-    (c.deref.ensures.value ∙ c.in_ok-lengths.ensures) c.requires.seqs in
+    let same = c.in_ok-groups.ensures.groups in
     none_first (lacks_of p labels) (same_first p labels c.in_ok-groups.groups None same c.in-None.ensures.lack)
 
 pub returns-in_ok-lack_refusal-in-Some-clause-refused : goal.returns-in_ok-lack_refusal-in-Some-clause-refused
@@ -90,9 +63,7 @@ returns-in_ok-lack_refusal-in-Some-clause-refused c =
     let p = plain c.args.program.now in
     let labels = c.args.labels.now in
     let lack = c.in-Some.lack in
-    let same =
-    same_groups p c.args.seqs.now labels c.deref.result.now c.in_ok-groups.groups c.in_ok-groups.ensures.groups
-    (c.deref.ensures.value ∙ c.in_ok-lengths.ensures) c.requires.seqs in
+    let same = c.in_ok-groups.ensures.groups in
     let first = same_first p labels c.in_ok-groups.groups (Some lack) same c.in-Some.ensures.lack in
     let lacked = first_lack p labels lack first in
     let members = ap (λ gs. members_at gs lack.link lack.label) same ∙ lacked.members in
