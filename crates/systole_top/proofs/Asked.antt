@@ -1,9 +1,15 @@
 -- A command reads no file but those that it names.
-use Rattle.std.proofs.Common.{ℕ, List, Option, Contains, refl, sym, subst, inl, inr, arith}
-use Rattle.systole_top.specs.Commands.{judgement_of, judged, check_reply, explain_reply, compile_reply, tree_of, files_of}
-use Rattle.systole_top.specs.Shape.{Shape, Check, Explain, Compile}
+use Rattle.std.proofs.Common.{ℕ, List, [], ◌∷◌, Option, Contains, refl, sym, subst, inl, inr, arith}
+use Rattle.cell_code.specs.declared.image.Image.{Image}
+use Rattle.systole_top.specs.Commands.{judgement_of, judged, given_of, given_in, check_reply, explain_reply, compile_reply, need_reply, mean_reply, meant, tree_of, files_of}
+use Rattle.systole_top.specs.Given.{Given, Taken, Bad}
+use Rattle.systole_top.specs.Judgement.{Question, Plan, acceptance, needs}
+use Rattle.systole_top.specs.Reply.{Reply}
+use Rattle.systole_top.specs.Shape.{Shape, Check, Explain, Compile, Need, Mean}
 use Rattle.systole_top.specs.Tree.{Tree, Gives, Reads, Picks, then_, Tries, Asks}
-use Rattle.sys_base.specs.declared.limits.TheConstants.{SOURCE_BYTES}
+use Rattle.systole_top.specs.declared.judgement.Judgement.{Judgement}
+use Rattle.systole_top.specs.declared.judgement.Judgement.TheVariants.{Accepted, Refused}
+use Rattle.sys_base.specs.declared.limits.TheConstants.{INPUT_BYTES, SOURCE_BYTES}
 
 -- what is read is asked for
 pub asks_tries : {A : Type 0} (held : List ℕ → Option (List ℕ)) (These : List ℕ → Type 0) (t : Tree A) (wanted : List ℕ) → Asks These t → Tries held t wanted → These wanted
@@ -22,20 +28,39 @@ asks_then These (Gives x) f asks after = after x
 asks_then These (Reads name limit next) f asks after = (asks.0, λ file. asks_then These (next file) f (asks.1 file) after)
 asks_then These (Picks P next) f asks after = λ x. asks_then These (next x) f (asks x) after
 
--- ---- sources
+-- ---- sources and inputs
 
-pub asks_judged : (These : List ℕ → Type 0) (file : List ℕ) → These file → Asks These (judged file)
-asks_judged These file named = asks_then These (Reads file SOURCE_BYTES Gives) judgement_of (named, λ x. tt) (λ x y. tt)
+pub asks_judged : {V : Type 0} (These : List ℕ → Type 0) (question : Question V) (file : List ℕ) → These file → Asks These (judged question file)
+asks_judged {V} These question file named =
+    asks_then These (Reads file SOURCE_BYTES Gives) (judgement_of question) (named, λ x. tt) (λ x y. tt)
+
+asks_given : (These : List ℕ → Type 0) (image : Image) (input : List ℕ) → These input → Asks These (given_in image input)
+asks_given These image input named = asks_then These (Reads input INPUT_BYTES Gives) (given_of image) (named, λ x. tt) (λ x y. tt)
 
 -- ---- commands
 
+-- of a command that judges one file
+asks_one : {V : Type 0} (question : Question V) (file : List ℕ) (reply : Judgement V → Reply)
+    → Asks (Contains (file ∷ [])) (then_ (judged question file) (λ judgement. Gives (reply judgement)))
+asks_one {V} question file reply =
+    let These = Contains (file ∷ []) in
+    asks_then These (judged question file) (λ judgement. Gives (reply judgement)) (asks_judged These question file (0, omega arith, refl)) (λ x. tt)
+
+asks_mean : (These : List ℕ → Type 0) (plan : Plan) (g : Given) → Asks These (mean_reply plan g)
+asks_mean These plan (Taken inputs) = λ words. tt
+asks_mean These plan (Bad line) = tt
+
+asks_meant : (These : List ℕ → Type 0) (input : List ℕ) → These input → (j : Judgement Plan) → Asks These (meant input j)
+asks_meant These input named (Accepted plan) =
+    asks_then These (given_in plan.image input) (mean_reply plan) (asks_given These plan.image input named) (asks_mean These plan)
+asks_meant These input named (Refused r) = tt
+
 pub asks : (s : Shape) → Asks (Contains (files_of s)) (tree_of s)
-asks (Check file) =
-    let These = Contains (files_of (Check file)) in
-    asks_then These (judged file) (λ judgement. Gives (check_reply judgement)) (asks_judged These file (0, omega arith, refl)) (λ x. tt)
-asks (Explain file) =
-    let These = Contains (files_of (Explain file)) in
-    asks_then These (judged file) (λ judgement. Gives (explain_reply judgement)) (asks_judged These file (0, omega arith, refl)) (λ x. tt)
-asks (Compile file) =
-    let These = Contains (files_of (Compile file)) in
-    asks_then These (judged file) (λ judgement. Gives (compile_reply judgement)) (asks_judged These file (0, omega arith, refl)) (λ x. tt)
+asks (Check file) = asks_one acceptance file check_reply
+asks (Explain file) = asks_one acceptance file explain_reply
+asks (Compile file) = asks_one acceptance file compile_reply
+asks (Need file) = asks_one needs file need_reply
+asks (Mean file input) =
+    let These = Contains (files_of (Mean file input)) in
+    asks_then These (judged acceptance file) (meant input) (asks_judged These acceptance file (0, omega arith, refl))
+    (asks_meant These input (1, omega arith, refl))

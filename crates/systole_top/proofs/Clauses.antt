@@ -15,11 +15,12 @@ use Rattle.systole_top.specs.Tree.{Tree, Gives, Reads, Picks, within, Replies, C
 use Rattle.systole_top.specs.declared.answer.Answer.{Answer}
 use Rattle.systole_top.specs.declared.answer.Stop.{Stop}
 use Rattle.systole_top.specs.declared.answer.Verdict.{Verdict}
-use Rattle.systole_top.specs.declared.answer.Verdict.TheVariants.{Done, Refused}
+use Rattle.systole_top.specs.declared.answer.Verdict.TheVariants.{Done, Refused, BadInput}
 use Rattle.systole_top.specs.declared.status.Status.{Status}
 use Rattle.systole_top.proofs.Asked.{asks, asks_tries}
-use Rattle.systole_top.proofs.Checked.{SomeImage, SomeJudgement, checks_of, some_answer}
-use Rattle.systole_top.proofs.Compiled.{DoAsTheySay, compiles_of}
+use Rattle.systole_top.proofs.Compiled.{compiles_of}
+use Rattle.systole_top.proofs.Every.{checks_of, some_answer}
+use Rattle.systole_top.proofs.Laws.{Laws}
 use Rattle.systole_top.proofs.Reaching.{untouched, reaches_err}
 
 -- ---- verdicts
@@ -34,6 +35,7 @@ record IsVerdict (s : Status) : Type 0 where
 verdict : (v : Verdict) → IsVerdict (status_of v)
 verdict Done = record { usage = λ e. cc; read = λ e. cc; write = λ e. cc; memory = λ e. cc }
 verdict Refused = record { usage = λ e. cc; read = λ e. cc; write = λ e. cc; memory = λ e. cc }
+verdict BadInput = record { usage = λ e. cc; read = λ e. cc; write = λ e. cc; memory = λ e. cc }
 
 -- ---- what a step tells
 
@@ -301,9 +303,9 @@ module _ (held : List ℕ → Option (List ℕ)) (before now : List ℕ → ℕ)
         ]
       ]
 
-  completes_of : SomeJudgement → SomeImage → (asked : Option Shape) → Answers asked held before now out err status → Completes asked held before now out err status
-  completes_of law images asked answers files on_out on_err =
-      let a = some_answer law images held asked (λ name named. (files name named).0) in
+  completes_of : Laws → (asked : Option Shape) → Answers asked held before now out err status → Completes asked held before now out err status
+  completes_of laws asked answers files on_out on_err =
+      let a = some_answer laws held asked (λ name named. (files name named).0) in
       (a.0, a.1, status_of_answer asked answers a.0 a.1 (λ name named. (files name named).1) on_out on_err)
 
 module _ {asked : Option Shape} {held : List ℕ → Option (List ℕ)} {before now : List ℕ → ℕ} {out err : Stream} {status : Status} (t : Tells asked held before now out err status) where
@@ -313,8 +315,8 @@ module _ {asked : Option Shape} {held : List ℕ → Option (List ℕ)} {before 
   pub judges : Judges asked held out err status
   judges = judges_of held before now out err status asked t.told t.may t.reaches
 
-  pub checks : SomeImage → Checks asked held out err status
-  checks images = checks_of held before now out err status images asked answers judges
+  pub checks : Laws → Checks asked held out err status
+  checks laws = checks_of held before now out err status laws asked answers judges
 
   pub usage_cause : UsageCause asked status
   usage_cause = usage_of held before now out err status asked t.told t.may t.reaches
@@ -328,11 +330,11 @@ module _ {asked : Option Shape} {held : List ℕ → Option (List ℕ)} {before 
   pub memory_cause : status ≡ Status.Memory → MemoryCause out err
   memory_cause = memory_of held before now out err status asked t.told t.may t.reaches
 
-  pub completes : SomeJudgement → SomeImage → Completes asked held before now out err status
-  completes law images = completes_of held before now out err status law images asked answers
+  pub completes : Laws → Completes asked held before now out err status
+  completes laws = completes_of held before now out err status laws asked answers
 
-  pub compiles : DoAsTheySay → Compiles asked held out err status
-  compiles law = compiles_of held before now out err status law asked t.told t.may t.reaches
+  pub compiles : Laws → Compiles asked held out err status
+  compiles laws = compiles_of held before now out err status laws asked t.told t.may t.reaches
 
 -- ---- what was told
 

@@ -1,8 +1,16 @@
 pub mod Trees
 pub mod Reaching
 pub mod Reading
+pub mod Laws
+pub mod Long
+pub mod Told
+pub mod Inputs
 pub mod Asked
 pub mod Checked
+pub mod Meant
+pub mod Every
 pub mod Compiled
 pub mod Clauses
 pub mod Judging
+pub mod Giving
+pub mod Needing

@@ -120,3 +120,7 @@ pub step_stop : {A B : Type 0} {h0 h1 : List ℕ → Option (List ℕ)} {b0 b1 :
     → Steps h0 h1 b0 b1 t (Stopped (halt_of stop)) → Steps h0 h1 b0 b1 (then_ t f) (Stopped (halt_of stop))
 step_stop {A} {B} {h0} {h1} {b0} {b1} {t} f stop first =
     record { held = first.held; later = first.later; runs = runs_stop h0 b0 b1 f t (halt_of stop) first.runs }
+
+-- a step that reads no file is a whole one
+pub step_alone : {A : Type 0} {held : List ℕ → Option (List ℕ)} {before : List ℕ → ℕ} (t : Tree A) {end : End A} → Shows t end → Steps held held before before t end
+step_alone {A} {held} {before} t {end} shows = record { held = refl; later = λ name. omega arith; runs = runs_shows held before before t end shows }

@@ -1,19 +1,23 @@
 -- Why the top call answers as it does.
-use Rattle.std.specs.Prelude.{ℕ, ◌≡◌, ◌⊎◌, ◌≢◌, ◌-◌, ◌^◌, ◌<◌, List, [], Option, None, Some, IsSome, IfSome, Contains}
+use Rattle.std.specs.Prelude.{ℕ, ◌≡◌, ◌⊎◌, ◌≢◌, ◌-◌, ◌^◌, ◌<◌, ℤ, List, [], Option, None, Some, IsSome, IfSome, Contains}
 use Rattle.std.specs.Io.KnownBytes.{Appends, Keeps}
-use Rattle.accept.specs.FirstRefusal.{Accepts, FirstRefusal}
-use Rattle.accept.specs.Image.{IsImageOf}
-use Rattle.cell_code.specs.declared.image.Image.{Image}
+use Rattle.accept.specs.FirstRefusal.{FirstRefusal}
+use Rattle.accept.specs.Needs.{need_lines}
+use Rattle.comm_sequence.specs.Meaning.{IsMeaning}
 use Rattle.object_io.specs.Objects.{object_text}
 use Rattle.refusals.specs.Explanations.{explanation}
 use Rattle.refusals.specs.declared.refusal.Refusal.{Refusal}
+use Rattle.sys_base.specs.declared.limits.TheConstants.{INPUT_BYTES}
+use Rattle.sys_base.specs.declared.word.Word.{Word}
 use Rattle.sys_outside.specs.Fault.{Rose}
-use Rattle.systole_top.specs.Commands.{tree_of, files_of}
+use Rattle.systole_top.specs.Commands.{tree_of, files_of, silent, meaning_line}
+use Rattle.systole_top.specs.Given.{Taken, Bad, IsGiven}
+use Rattle.systole_top.specs.Judgement.{Question, Plan, IsPlanOf, acceptance, needs}
 use Rattle.systole_top.specs.Reply.{Reply, Outcome, status_of, outcome_of, usage, unread, no_memory}
-use Rattle.systole_top.specs.Shape.{Shape, Check, Explain, Compile}
+use Rattle.systole_top.specs.Shape.{Shape, Check, Explain, Compile, Need, Mean}
 use Rattle.systole_top.specs.Sides.{Stream, Reaches}
 use Rattle.systole_top.specs.Texts.{cannot_read, accepted_line, out_of_memory, refusal_line}
-use Rattle.systole_top.specs.Tree.{Replies, Comes, Tries}
+use Rattle.systole_top.specs.Tree.{Replies, Comes, Tries, within}
 use Rattle.systole_top.specs.declared.answer.Verdict.{Verdict}
 use Rattle.systole_top.specs.declared.status.Status.{Status}
 
@@ -82,29 +86,57 @@ abbrev pub IsOrFault : Status → Status → Type 0
 IsOrFault wanted status =
     (status ≡ wanted) ⊎ (status ≡ Status.ReadFault) ⊎ (status ≡ Status.WriteFault) ⊎ (status ≡ Status.Memory)
 
--- What is said of a text: Done and the bytes for its image exactly where the text has no refusal, Refused and these
--- bytes on each side for the first refusal exactly where it has one, but for faults.
-pub record IsChecked (wanted : Image → List ℕ) (on_out on_err : Refusal → List ℕ) (text : List ℕ) (out err : Stream)
-    (status : Status) : Type 0 where
-  pub done : status ≡ Status.Done → (image : Image) × IsImageOf text image
-      × Appends out.told_before out.told_now (wanted image) × Appends err.told_before err.told_now []
-  pub refused : status ≡ Status.Refused → (r : Refusal) × FirstRefusal text r
+-- What is said of a text that is asked a question: Done and the bytes for what is found exactly where the text passes,
+-- Refused and these bytes on each side for the first refusal exactly where it has one, but for faults.
+pub record IsChecked {V : Type 0} (question : Question V) (wanted : V → List ℕ) (on_out on_err : Refusal → List ℕ)
+    (text : List ℕ) (out err : Stream) (status : Status) : Type 0 where
+  pub done : status ≡ Status.Done → (found : V) × question.Finds text found
+      × Appends out.told_before out.told_now (wanted found) × Appends err.told_before err.told_now []
+  pub refused : status ≡ Status.Refused → (r : Refusal) × question.Refuses text r
       × Appends out.told_before out.told_now (on_out r) × Appends err.told_before err.told_now (on_err r)
-  pub accepted : Accepts text → IsOrFault Status.Done status
-  pub first : (r : Refusal) → FirstRefusal text r → IsOrFault Status.Refused status
+  pub accepted : question.Passes text → IsOrFault Status.Done status
+  pub first : (r : Refusal) → question.Refuses text r → IsOrFault Status.Refused status
 
--- Where the words are `check F`, `explain F` or `compile F` and the file F is told, its text is checked. For a text
--- without a refusal `check` and `explain` put `accepted` on standard output, and `compile` the object of its image. For
--- another one `check` and `compile` put the line of the first refusal on standard error, and `explain` its explanation
--- on standard output.
+-- What `mean` says of a text and an input, but for faults: Refused for the first refusal of the text, exactly where it
+-- has one; else BadInput for the first rule that the input breaks, exactly where it breaks one; else Done, and the
+-- words of the program's meaning for what the input gives.
+pub record IsMeant (text bytes : List ℕ) (out err : Stream) (status : Status) : Type 0 where
+  pub done : status ≡ Status.Done → (plan : Plan) × IsPlanOf text plan
+      × (inputs : List (List ℤ)) × IsGiven plan.image (within INPUT_BYTES bytes) (Taken inputs)
+      × (words : List (List Word)) × IsMeaning plan.program inputs words
+      × Appends out.told_before out.told_now (meaning_line plan.image words)
+      × Appends err.told_before err.told_now []
+  pub refused : status ≡ Status.Refused → (r : Refusal) × FirstRefusal text r
+      × Appends out.told_before out.told_now [] × Appends err.told_before err.told_now (refusal_line r)
+  pub bad : status ≡ Status.BadInput → (plan : Plan) × IsPlanOf text plan
+      × (line : List ℕ) × IsGiven plan.image (within INPUT_BYTES bytes) (Bad line)
+      × Appends out.told_before out.told_now [] × Appends err.told_before err.told_now line
+  pub first : (r : Refusal) → FirstRefusal text r → IsOrFault Status.Refused status
+  pub broken : (plan : Plan) (line : List ℕ) → IsPlanOf text plan
+      → IsGiven plan.image (within INPUT_BYTES bytes) (Bad line) → IsOrFault Status.BadInput status
+  pub given : (plan : Plan) (inputs : List (List ℤ)) → IsPlanOf text plan
+      → IsGiven plan.image (within INPUT_BYTES bytes) (Taken inputs) → IsOrFault Status.Done status
+
+-- Where the words name a file F that is told, its text is checked. For a text without a refusal `check` and `explain`
+-- put `accepted` on standard output, and `compile` the object of its image. For another one `check` and `compile` put
+-- the line of the first refusal on standard error, and `explain` its explanation on standard output. `need` puts a line
+-- for each link with a group on standard output; it refuses as `check` does, but for want of queues or steps. `mean`
+-- puts the meaning of the program for the input, where that is told too.
 abbrev pub Checks : Option Shape → (List ℕ → Option (List ℕ)) → Stream → Stream → Status → Type 0
 Checks None held out err status = Unit {0}
 Checks (Some (Check file)) held out err status =
-    IfSome (held file) (λ text. IsChecked (λ image. accepted_line) (λ r. []) refusal_line text out err status)
+    IfSome (held file)
+    (λ text. IsChecked acceptance (λ plan. accepted_line) silent refusal_line text out err status)
 Checks (Some (Explain file)) held out err status =
-    IfSome (held file) (λ text. IsChecked (λ image. accepted_line) explanation (λ r. []) text out err status)
+    IfSome (held file)
+    (λ text. IsChecked acceptance (λ plan. accepted_line) explanation silent text out err status)
 Checks (Some (Compile file)) held out err status =
-    IfSome (held file) (λ text. IsChecked object_text (λ r. []) refusal_line text out err status)
+    IfSome (held file)
+    (λ text. IsChecked acceptance (λ plan. object_text plan.image) silent refusal_line text out err status)
+Checks (Some (Need file)) held out err status =
+    IfSome (held file) (λ text. IsChecked needs need_lines silent refusal_line text out err status)
+Checks (Some (Mean file input)) held out err status =
+    IfSome (held file) (λ text. IfSome (held input) (λ bytes. IsMeant text bytes out err status))
 
 -- Words with no shape are a faulty command line, unless a put failed or memory ran out; others never are.
 abbrev pub UsageCause : Option Shape → Status → Type 0

@@ -2,6 +2,7 @@ pub mod bodies
 pub mod Judgement
 pub mod Only
 pub mod Texts
+pub mod Given
 pub mod Shape
 pub mod Reply
 pub mod Tree

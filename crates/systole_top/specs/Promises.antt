@@ -25,7 +25,8 @@ call asked held before now out err status =
 
 -- What holds of every call.
 pub record Promises (c : Call) : Type 0 where
-  -- what `compile` puts with Done is an array program that does what the text says: no run of it can stall
+  -- what `compile` puts with Done is an array program that does what the text says: no run of it can stall; and what
+  -- `mean` puts with Done is what every finished run of it emits
   pub compiles : Compiles c.asked c.held c.out c.err c.status
   -- one outcome that may be told was told
   pub tells : Tells c.asked c.held c.before c.now c.out c.err c.status
@@ -33,7 +34,7 @@ pub record Promises (c : Call) : Type 0 where
   pub answer : Answers c.asked c.held c.before c.now c.out c.err c.status
   -- a verdict is that of the answer, and the answer is on the sinks
   pub judges : Judges c.asked c.held c.out c.err c.status
-  -- what `check`, `explain` and `compile` say of a text
+  -- what the commands say of a text, and of an input
   pub checks : Checks c.asked c.held c.out c.err c.status
   -- a faulty command line, exactly where the words have no shape
   pub usage : UsageCause c.asked c.status

@@ -8,6 +8,7 @@ use sys_base::Memory;
 pub enum Verdict {
     Done,
     Refused,
+    BadInput,
 }
 
 /// Where a text goes.

@@ -1,13 +1,14 @@
 ghost use Rattle.std.specs.Prelude.{◌≡◌, [], IfOk};
-ghost use Rattle.systole_top.specs.Commands.{accepted_reply, check_reply, refused_reply, tree_of};
+ghost use Rattle.systole_top.specs.Commands.{check_reply, done_reply, refused_reply, tree_of};
 ghost use Rattle.systole_top.specs.bodies.Runs.{Steps, Shows};
 ghost use Rattle.systole_top.specs.Shape.{Check};
-ghost use Rattle.systole_top.specs.bodies.Stops.{ended, reply_of};
+ghost use Rattle.systole_top.specs.bodies.Stops.{ended, plan_of, reply_of};
 ghost use Rattle.systole_top.specs.Texts.{accepted_line, refusal_line};
 ghost use Rattle.systole_top.specs.Tree.{Gives};
 
 use crate::answer::{Answer, Side, Stop, Verdict};
 use crate::judgement::{Judgement, judged};
+use accept::Built;
 use refusals::Refusal;
 use std::alloc::{AllocError, Global};
 use sys_outside::Shelf;
@@ -22,8 +23,8 @@ pub fn check<S: Shelf>(alloc: Global, shelf: &mut S, file: &str) -> Result<Answe
     check_reply(alloc, judgement)
 }
 
-fn check_reply(alloc: Global, judgement: Judgement) -> Result<Answer, Stop>
-    ensures { Shows (Gives (check_reply judgement)) (ended reply_of result) }
+fn check_reply(alloc: Global, judgement: Judgement<Built>) -> Result<Answer, Stop>
+    ensures { Shows (Gives (check_reply (plan_of judgement))) (ended reply_of result) }
 {
     match judgement {
         Judgement::Accepted(_) => accepted_reply(alloc),
@@ -33,7 +34,7 @@ fn check_reply(alloc: Global, judgement: Judgement) -> Result<Answer, Stop>
 
 /// Says that the source is accepted.
 pub fn accepted_reply(alloc: Global) -> Result<Answer, Stop>
-    ensures { Shows (Gives accepted_reply) (ended reply_of result) }
+    ensures { Shows (Gives (done_reply accepted_line)) (ended reply_of result) }
 {
     Ok(Answer {
         verdict: Verdict::Done,

@@ -7,6 +7,8 @@ use crate::answer::{Answer, Stop};
 use crate::check::check;
 use crate::compile::compile;
 use crate::explain::explain;
+use crate::mean::mean;
+use crate::need::need;
 use crate::words::Command;
 use std::alloc::Global;
 use sys_outside::Shelf;
@@ -24,5 +26,7 @@ pub fn answer_command<S: Shelf>(
         Command::Check(file) => check(alloc, shelf, file),
         Command::Explain(file) => explain(alloc, shelf, file),
         Command::Compile(file) => compile(alloc, shelf, file),
+        Command::Need(file) => need(alloc, shelf, file),
+        Command::Mean(file, input) => mean(alloc, shelf, file, input),
     }
 }

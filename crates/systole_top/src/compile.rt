@@ -1,13 +1,14 @@
 ghost use Rattle.systole_top.specs.Commands.{compile_reply, tree_of};
-ghost use Rattle.systole_top.specs.bodies.Listed.{CanBeWritten};
+ghost use Rattle.systole_top.specs.bodies.Ready.{WhereReady};
 ghost use Rattle.systole_top.specs.bodies.Runs.{Steps, Shows};
 ghost use Rattle.systole_top.specs.Shape.{Compile};
-ghost use Rattle.systole_top.specs.bodies.Stops.{ended, reply_of};
+ghost use Rattle.systole_top.specs.bodies.Stops.{ended, plan_of, reply_of};
 ghost use Rattle.systole_top.specs.Tree.{Gives};
 
 use crate::answer::{Answer, Side, Stop, Verdict};
 use crate::check::refused_reply;
 use crate::judgement::{Judgement, judged};
+use accept::Built;
 use object_io::write_object;
 use std::alloc::Global;
 use sys_outside::Shelf;
@@ -22,15 +23,15 @@ pub fn compile<S: Shelf>(alloc: Global, shelf: &mut S, file: &str) -> Result<Ans
     compile_reply(alloc, judgement)
 }
 
-fn compile_reply(alloc: Global, judgement: Judgement) -> Result<Answer, Stop>
-    requires listed { CanBeWritten judgement }
-    ensures { Shows (Gives (compile_reply judgement)) (ended reply_of result) }
+fn compile_reply(alloc: Global, judgement: Judgement<Built>) -> Result<Answer, Stop>
+    requires ready { WhereReady judgement }
+    ensures { Shows (Gives (compile_reply (plan_of judgement))) (ended reply_of result) }
 {
     match judgement {
-        Judgement::Accepted(image) => Ok(Answer {
+        Judgement::Accepted(built) => Ok(Answer {
             verdict: Verdict::Done,
             side: Side::Out,
-            text: write_object(alloc, &image)?,
+            text: write_object(alloc, &built.image)?,
         }),
         Judgement::Refused(refusal) => refused_reply(alloc, refusal),
     }

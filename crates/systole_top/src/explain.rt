@@ -1,12 +1,13 @@
 ghost use Rattle.systole_top.specs.Commands.{explain_reply, tree_of};
 ghost use Rattle.systole_top.specs.bodies.Runs.{Steps, Shows};
 ghost use Rattle.systole_top.specs.Shape.{Explain};
-ghost use Rattle.systole_top.specs.bodies.Stops.{ended, reply_of};
+ghost use Rattle.systole_top.specs.bodies.Stops.{ended, plan_of, reply_of};
 ghost use Rattle.systole_top.specs.Tree.{Gives};
 
 use crate::answer::{Answer, Side, Stop, Verdict};
 use crate::check::accepted_reply;
 use crate::judgement::{Judgement, judged};
+use accept::Built;
 use std::alloc::Global;
 use sys_outside::Shelf;
 
@@ -20,8 +21,8 @@ pub fn explain<S: Shelf>(alloc: Global, shelf: &mut S, file: &str) -> Result<Ans
     explain_reply(alloc, judgement)
 }
 
-fn explain_reply(alloc: Global, judgement: Judgement) -> Result<Answer, Stop>
-    ensures { Shows (Gives (explain_reply judgement)) (ended reply_of result) }
+fn explain_reply(alloc: Global, judgement: Judgement<Built>) -> Result<Answer, Stop>
+    ensures { Shows (Gives (explain_reply (plan_of judgement))) (ended reply_of result) }
 {
     match judgement {
         Judgement::Accepted(_) => accepted_reply(alloc),

@@ -47,6 +47,7 @@ fn status_of(verdict: Verdict) -> Status
     match verdict {
         Verdict::Done => Status::Done,
         Verdict::Refused => Status::Refused,
+        Verdict::BadInput => Status::BadInput,
     }
 }
 

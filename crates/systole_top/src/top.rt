@@ -8,8 +8,9 @@ use crate::command::answer_command;
 use crate::say::{say, say_usage};
 use crate::status::Status;
 use crate::words::read_words;
-use accept::{accepted_or_refused, images_do_as_they_say, some_image};
+use accept::{accepted_or_refused, images_do_as_they_say, some_answer_of_needs, some_image};
 use std::alloc::Global;
+use stream_io::one_input;
 use sys_outside::{Shelf, Sink};
 
 /// Answers the words of a command line: reads the files that they name from the shelf, and puts what there is to say on
@@ -31,6 +32,8 @@ pub fn systole<S: Shelf, O: Sink, E: Sink>(
     accepted_or_refused();
     some_image();
     images_do_as_they_say();
+    some_answer_of_needs();
+    one_input();
     tell(alloc, words, shelf, out, err)
 }
 

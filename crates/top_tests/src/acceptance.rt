@@ -1,4 +1,4 @@
-use accept::{AcceptError, Built, accepted_or_refused, build, one_first_refusal};
+use accept::{AcceptError, Built, NeedLine, accepted_or_refused, build, needs, one_first_refusal};
 use cell_code::Image;
 use comm_sequence::Comm::{self, Read, Write};
 use refusals::{Refusal, text};
@@ -19,6 +19,15 @@ fn refusal(alloc: Global, source: &[u8]) -> Result<Refusal, Fail> {
 fn accepted(alloc: Global, source: &[u8]) -> Result<Built, Fail> {
     match build(alloc, source) {
         Ok(built) => Ok(built),
+        Err(AcceptError::Memory) => Err("out of memory".into()),
+        Err(AcceptError::Refused(_)) => Err("refused".into()),
+    }
+}
+
+/// What the links of a text need.
+fn needed(alloc: Global, source: &[u8]) -> Result<Vec<NeedLine>, Fail> {
+    match needs(alloc, source) {
+        Ok(lines) => Ok(lines),
         Err(AcceptError::Memory) => Err("out of memory".into()),
         Err(AcceptError::Refused(_)) => Err("refused".into()),
     }
@@ -251,6 +260,34 @@ fn refuses_wrong_sources(rt: HostRuntime) -> Result<(), Fail> {
     ];
     for (source, line) in rows {
         expect(&rt, source, line)?;
+    }
+    Ok(())
+}
+
+#[test]
+fn says_what_links_need(rt: HostRuntime) -> Result<(), Fail> {
+    let alloc = rt.alloc();
+    let lines = needed(
+        alloc,
+        b"array 1 x 2; queues 1; message A from 0.0 to 0.1; message B from 0.0 to 0.1;\n\
+        cell 0.0 { write A 1; write B 2; write A 3; } cell 0.1 { var x; read A x; read B x; read A x; }",
+    )?;
+    assert_eq!(rt; lines.len(), 1);
+    for line in &lines {
+        let printed = format!(in alloc; "{line}")?;
+        assert_eq!(rt; printed.as_str(), "link 0.0E need 2 has 1");
+    }
+    let many = needed(
+        alloc,
+        b"array 16 x 16; queues 1; message A from 0.0 to 15.15;\n\
+        cell 0.0 { for i 65535 {\n\
+        write A 1; write A 1; write A 1; write A 1; write A 1; write A 1; write A 1; write A 1; } }\n\
+        cell 15.15 { var x; for i 65535 {\n\
+        read A x; read A x; read A x; read A x; read A x; read A x; read A x; read A x; } }",
+    )?;
+    assert_eq!(rt; many.len(), 30);
+    for line in &many {
+        assert_eq!(rt; (line.need, line.has), (1, 1));
     }
     Ok(())
 }

@@ -14,7 +14,7 @@ fn words(alloc: Global, texts: &[&str]) -> Result<Vec<String>, Fail> {
 #[test]
 fn words_with_no_shape_are_usage(rt: HostRuntime) -> Result<(), Fail> {
     let alloc = rt.alloc();
-    let lines: [&[&str]; 10] = [
+    let lines: [&[&str]; 14] = [
         &[],
         &["check"],
         &["check", ""],
@@ -25,6 +25,10 @@ fn words_with_no_shape_are_usage(rt: HostRuntime) -> Result<(), Fail> {
         &["compile", "F", "G"],
         &["check", "F", "G"],
         &["explain", "F", "G"],
+        &["need"],
+        &["mean", "F"],
+        &["mean", "F", ""],
+        &["mean", "", "IN"],
     ];
     for texts in lines {
         let mut shelf = SureShelf::new(Vec::new(alloc));

@@ -4,4 +4,6 @@
 #[cfg(test)]
 mod acceptance;
 #[cfg(test)]
+mod answers;
+#[cfg(test)]
 mod commands;
