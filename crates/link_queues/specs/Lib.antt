@@ -1,0 +1,5 @@
+pub mod Fabrics
+pub mod Keeping
+pub mod Standing
+pub mod Tables
+pub mod Tracks
