@@ -1,0 +1,6 @@
+pub mod Below
+pub mod Drawn
+pub mod NamesAre
+pub mod Lines
+pub mod Made
+pub mod Examples

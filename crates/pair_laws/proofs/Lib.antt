@@ -1,0 +1,16 @@
+pub mod Order
+pub mod Bare
+pub mod Written
+pub mod Programs
+pub mod Paired
+pub mod Faultless
+pub mod Same
+pub mod Program
+pub mod Crossed
+pub mod Room
+pub mod Accepted
+pub mod Printed
+pub mod Fits
+pub mod Size
+pub mod Printable
+pub mod Texts
