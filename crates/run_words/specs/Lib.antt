@@ -1,0 +1,4 @@
+pub mod Answers
+pub mod Once
+pub mod Results
+pub mod Schedules
