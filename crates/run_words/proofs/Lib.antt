@@ -1,4 +1,5 @@
 pub mod Answering
+pub mod Ends
 mod Examples
 pub mod Files
 pub mod Lines

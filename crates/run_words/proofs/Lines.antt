@@ -1,5 +1,6 @@
 -- A run has just one result line.
-use Rattle.std.proofs.Common.{◌≡◌, ◌↔◌, ℕ, Bool, true, false, List, [], ◌∷◌, Option, length, map, slice_get, refl, sym, ap, ◌∙◌}
+use Rattle.std.proofs.Common.{◌≡◌, ◌↔◌, ℕ, Bool, true, false, List, [], ◌∷◌, Option}
+use Rattle.std.proofs.Common.{length, map, slice_get, refl, sym, ap, ◌∙◌}
 use Rattle.std.specs.Bool.{IsTrue}
 use Rattle.sys_base.specs.Grid.{Extent}
 use Rattle.sys_base.specs.Groups.{below}
@@ -91,5 +92,6 @@ module _ (image : Image) (inputs : Inputs) (cap : ℕ) (run : List Actor) (last 
       h.2 ∙ (same_line image.grid h.0.finished k.0.finished h.0.next k.0.next h.0.outputs.cells k.0.outputs.cells
       h.0.emits k.0.emits h.0.peaks k.0.peaks h.0.steps k.0.steps
       (same_test (IsFinished image last) h.0.finished k.0.finished a.finished b.finished)
-      (a.next ∙ sym b.next) (a.outputs ∙ sym b.outputs) (a.emits ∙ sym b.emits) (a.peaks ∙ sym b.peaks) (a.steps ∙ sym b.steps)
+      (a.next ∙ sym b.next) (a.outputs ∙ sym b.outputs) (a.emits ∙ sym b.emits)
+      (a.peaks ∙ sym b.peaks) (a.steps ∙ sym b.steps)
       ∙ sym k.2)

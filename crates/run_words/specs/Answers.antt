@@ -63,9 +63,11 @@ capacity image asked = max asked image.buffer
 -- not enabled.
 abbrev pub Says : Image → Inputs → ℕ → Bool → List Actor → ArrayState → Ending → RunAnswer → Type 0
 Says image inputs cap recorded run last Finished answer =
-    (line : List ℕ) × IsResultLine image inputs cap run last line × (answer ≡ told Verdict.Done (line ++ record_text recorded run))
+    (line : List ℕ) × IsResultLine image inputs cap run last line
+    × (answer ≡ told Verdict.Done (line ++ record_text recorded run))
 Says image inputs cap recorded run last Unfinished answer =
-    (line : List ℕ) × IsResultLine image inputs cap run last line × (answer ≡ told Verdict.Unfinished (line ++ record_text recorded run))
+    (line : List ℕ) × IsResultLine image inputs cap run last line
+    × (answer ≡ told Verdict.Unfinished (line ++ record_text recorded run))
 Says image inputs cap recorded run last (NotEnabled entry) answer = answer ≡ bad (not_enabled_line entry)
 
 -- This is the answer for a schedule: what is said of the run that the schedule makes.

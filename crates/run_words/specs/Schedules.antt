@@ -50,9 +50,11 @@ module _ (image : Image) (inputs : Inputs) (cap : ℕ) where
   -- until nothing is enabled; recorded entries as far as they lead.
   abbrev pub Makes : Schedule → List Actor → ArrayState → Ending → Type 0
   Makes Low run last ending =
-      (ending ≡ Finished) × (before : TheLow) × (after : TheLow) × PicksWhole PicksFirst image inputs cap before run last after
+      (ending ≡ Finished) × (before : TheLow) × (after : TheLow)
+      × PicksWhole PicksFirst image inputs cap before run last after
   Makes High run last ending =
-      (ending ≡ Finished) × (before : TheHigh) × (after : TheHigh) × PicksWhole PicksLast image inputs cap before run last after
+      (ending ≡ Finished) × (before : TheHigh) × (after : TheHigh)
+      × PicksWhole PicksLast image inputs cap before run last after
   Makes Round run last ending =
       (ending ≡ Finished) × (after : Option Actor) × PicksWhole PicksRound image inputs cap None run last after
   Makes (Seeded seed) run last ending =
