@@ -1,6 +1,7 @@
 -- The definitions, computed on one message of one word from one cell to the next.
 use Rattle.std.proofs.Common.{◌≡◌, ℕ, zero, suc, ◌<◌, ◌-◌, ◌%◌, true, false, ℤ, pos, List, []}
-use Rattle.std.proofs.Common.{◌∷◌, ◌++◌, Option, Some, None, length, slice_get, slice_index_or, Contains, refl, subst, ap, arith}
+use Rattle.std.proofs.Common.{◌∷◌, ◌++◌, Option, Some, None, length, slice_get, slice_index_or, Contains}
+use Rattle.std.proofs.Common.{refl, subst, ap, arith}
 use Rattle.std.specs.Prelude.{codes, slice_index}
 use Rattle.std.specs.Fmt.{digits}
 use Rattle.std.specs.Option.{option_and_then, unwrap_or}
@@ -137,7 +138,8 @@ module _ {S : Type 0} (choose : S → List Actor → ℕ × S) where
       (slice_get (enabled one_word (inputs_of nothing) 1 s) pick.0)
 
   module _ (picks : S → List Actor → Pick → S → Type 0)
-      (each : (value : S) (list : List Actor) → picks value list (At (choose value list).0) (choose value list).1) where
+      (each : (value : S) (list : List Actor)
+      → picks value list (At (choose value list).0) (choose value list).1) where
     Walks : ArrayState → S → List Actor × ArrayState × S → Type 0
     Walks s value r = PicksRun picks one_word (inputs_of nothing) 1 s value r.0 r.1 r.2
 

@@ -1,6 +1,6 @@
 //! What the command `run` says of a run: its result line and its record (`specs/Results.antt`), the run that a
-//! schedule makes and how it ends (`specs/Schedules.antt`), and the answer (`specs/Answers.antt`). There is just one of
-//! each.
+//! schedule makes and how it ends (`specs/Schedules.antt`), and the answer (`specs/Answers.antt`). There is just one
+//! of each.
 #![tactic(auto)]
 
 mod laws;
