@@ -15,6 +15,7 @@ pub use chooser::{Chooser, Pick};
 pub use entries::{read_schedule, write_schedule};
 pub use error::ScheduleError;
 pub use laws::one_reading;
+pub use line::plain_number;
 pub use recorded::{Recorded, Standing};
 pub use round::Round;
 pub use seeded::Seeded;

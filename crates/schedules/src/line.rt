@@ -35,10 +35,19 @@ fn forward_of(numbers: &[u8]) -> Option<Actor>
     Some(Actor::Forward(message, hop))
 }
 
-/// The number of at most 65535 that a decimal spells; `None` where it spells none, or begins with a 0 too many.
+/// The number of at most 65535 that a decimal spells; `None` where it spells none.
 fn number_of(digits: &[u8]) -> Option<u16>
     ensures text { IfSome result (λ n. digits.now ≡ decimal n) }
     ensures none { IfNone result ((n : ℕ) → n < 2 ^ 16 → digits.now ≡ decimal n → ⊥) }
+{
+    u16::try_from(plain_number(digits)?).ok()
+}
+
+/// The number that a decimal spells; `None` where it spells none of 64 bits, has a sign, or begins with a 0 too many.
+/// Schedules and the words of a command line spell their numbers so.
+pub fn plain_number(digits: &[u8]) -> Option<u64>
+    ensures text { IfSome result (λ n. digits.now ≡ decimal n) }
+    ensures none { IfNone result ((n : ℕ) → n < 2 ^ 64 → digits.now ≡ decimal n → ⊥) }
 {
     if !begins_plainly(digits) {
         return None;
