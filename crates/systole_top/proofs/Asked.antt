@@ -1,11 +1,12 @@
 -- A command reads no file but those that it names.
-use Rattle.std.proofs.Common.{ℕ, List, [], ◌∷◌, Option, Contains, refl, sym, subst, inl, inr, arith}
+use Rattle.std.proofs.Common.{ℕ, ℤ, suc, List, [], ◌∷◌, Option, Contains, refl, sym, subst, inl, inr, arith}
 use Rattle.cell_code.specs.declared.image.Image.{Image}
-use Rattle.systole_top.specs.Commands.{judgement_of, judged, given_of, given_in, check_reply, explain_reply, compile_reply, need_reply, mean_reply, meant, tree_of, files_of}
+use Rattle.systole_top.specs.Commands.{judgement_of, judged, given_of, given_in, check_reply, explain_reply, compile_reply, need_reply, means, ran, runs, choice_in, on_inputs, with_input, tree_of, files_of, files_in}
 use Rattle.systole_top.specs.Given.{Given, Taken, Bad}
 use Rattle.systole_top.specs.Judgement.{Question, Plan, acceptance, needs}
 use Rattle.systole_top.specs.Reply.{Reply}
-use Rattle.systole_top.specs.Shape.{Shape, Check, Explain, Compile, Need, Mean}
+use Rattle.systole_top.specs.Shape.{Shape, Check, Explain, Compile, Need, Mean, Run}
+use Rattle.systole_top.specs.Shape.{Chosen, By, InFile}
 use Rattle.systole_top.specs.Tree.{Tree, Gives, Reads, Picks, then_, Tries, Asks}
 use Rattle.systole_top.specs.declared.judgement.Judgement.{Judgement}
 use Rattle.systole_top.specs.declared.judgement.Judgement.TheVariants.{Accepted, Refused}
@@ -46,14 +47,23 @@ asks_one {V} question file reply =
     let These = Contains (file ∷ []) in
     asks_then These (judged question file) (λ judgement. Gives (reply judgement)) (asks_judged These question file (0, omega arith, refl)) (λ x. tt)
 
-asks_mean : (These : List ℕ → Type 0) (plan : Plan) (g : Given) → Asks These (mean_reply plan g)
-asks_mean These plan (Taken inputs) = λ words. tt
-asks_mean These plan (Bad line) = tt
+-- of a command with an input
+asks_given_inputs : (These : List ℕ → Type 0) (next : List (List ℤ) → Tree Reply) → ((inputs : List (List ℤ)) → Asks These (next inputs)) → (g : Given)
+    → Asks These (on_inputs next g)
+asks_given_inputs These next asked (Taken inputs) = asked inputs
+asks_given_inputs These next asked (Bad line) = tt
 
-asks_meant : (These : List ℕ → Type 0) (input : List ℕ) → These input → (j : Judgement Plan) → Asks These (meant input j)
-asks_meant These input named (Accepted plan) =
-    asks_then These (given_in plan.image input) (mean_reply plan) (asks_given These plan.image input named) (asks_mean These plan)
-asks_meant These input named (Refused r) = tt
+asks_with_input : (These : List ℕ → Type 0) (input : List ℕ) (next : Plan → List (List ℤ) → Tree Reply) → These input
+    → ((plan : Plan) (inputs : List (List ℤ)) → Asks These (next plan inputs)) → (j : Judgement Plan) → Asks These (with_input input next j)
+asks_with_input These input next named asked (Accepted plan) =
+    asks_then These (given_in plan.image input) (on_inputs (next plan)) (asks_given These plan.image input named)
+    (asks_given_inputs These (next plan) (asked plan))
+asks_with_input These input next named asked (Refused r) = tt
+
+-- of a choice of schedule
+asks_choice : (These : List ℕ → Type 0) (chosen : Chosen) → ((name : List ℕ) → Contains (files_in chosen) name → These name) → Asks These (choice_in chosen)
+asks_choice These (By schedule) named = tt
+asks_choice These (InFile name) named = (named name (0, omega arith, refl), λ file. tt)
 
 pub asks : (s : Shape) → Asks (Contains (files_of s)) (tree_of s)
 asks (Check file) = asks_one acceptance file check_reply
@@ -62,5 +72,11 @@ asks (Compile file) = asks_one acceptance file compile_reply
 asks (Need file) = asks_one needs file need_reply
 asks (Mean file input) =
     let These = Contains (files_of (Mean file input)) in
-    asks_then These (judged acceptance file) (meant input) (asks_judged These acceptance file (0, omega arith, refl))
-    (asks_meant These input (1, omega arith, refl))
+    asks_then These (judged acceptance file) (with_input input means) (asks_judged These acceptance file (0, omega arith, refl))
+    (asks_with_input These input means (1, omega arith, refl) (λ plan inputs x. tt))
+asks (Run words) =
+    let These = Contains (files_of (Run words)) in
+    asks_then These (judged acceptance words.file) (with_input words.input (runs words)) (asks_judged These acceptance words.file (0, omega arith, refl))
+    (asks_with_input These words.input (runs words) (1, omega arith, refl)
+    (λ plan inputs. asks_then These (choice_in words.chosen) (ran words plan inputs)
+    (asks_choice These words.chosen (λ name named. (suc (suc named.0), omega (arith, named.1), named.2))) (λ choice answer. tt)))

@@ -15,27 +15,14 @@ use Rattle.systole_top.specs.Tree.{Tree, Gives, Reads, Picks, within, Replies, C
 use Rattle.systole_top.specs.declared.answer.Answer.{Answer}
 use Rattle.systole_top.specs.declared.answer.Stop.{Stop}
 use Rattle.systole_top.specs.declared.answer.Verdict.{Verdict}
-use Rattle.systole_top.specs.declared.answer.Verdict.TheVariants.{Done, Refused, BadInput}
 use Rattle.systole_top.specs.declared.status.Status.{Status}
 use Rattle.systole_top.proofs.Asked.{asks, asks_tries}
 use Rattle.systole_top.proofs.Compiled.{compiles_of}
 use Rattle.systole_top.proofs.Every.{checks_of, some_answer}
 use Rattle.systole_top.proofs.Laws.{Laws}
 use Rattle.systole_top.proofs.Reaching.{untouched, reaches_err}
-
--- ---- verdicts
-
--- The statuses of faults are no verdicts.
-record IsVerdict (s : Status) : Type 0 where
-  usage : s ≢ Status.Usage
-  read : s ≢ Status.ReadFault
-  write : s ≢ Status.WriteFault
-  memory : s ≢ Status.Memory
-
-verdict : (v : Verdict) → IsVerdict (status_of v)
-verdict Done = record { usage = λ e. cc; read = λ e. cc; write = λ e. cc; memory = λ e. cc }
-verdict Refused = record { usage = λ e. cc; read = λ e. cc; write = λ e. cc; memory = λ e. cc }
-verdict BadInput = record { usage = λ e. cc; read = λ e. cc; write = λ e. cc; memory = λ e. cc }
+use Rattle.systole_top.proofs.Shapes.{HasCapacity}
+use Rattle.systole_top.proofs.Verdicts.{verdict}
 
 -- ---- what a step tells
 
@@ -303,9 +290,9 @@ module _ (held : List ℕ → Option (List ℕ)) (before now : List ℕ → ℕ)
         ]
       ]
 
-  completes_of : Laws → (asked : Option Shape) → Answers asked held before now out err status → Completes asked held before now out err status
-  completes_of laws asked answers files on_out on_err =
-      let a = some_answer laws held asked (λ name named. (files name named).0) in
+  completes_of : Laws → (asked : Option Shape) → HasCapacity asked → Answers asked held before now out err status → Completes asked held before now out err status
+  completes_of laws asked some answers files on_out on_err =
+      let a = some_answer laws held asked some (λ name named. (files name named).0) in
       (a.0, a.1, status_of_answer asked answers a.0 a.1 (λ name named. (files name named).1) on_out on_err)
 
 module _ {asked : Option Shape} {held : List ℕ → Option (List ℕ)} {before now : List ℕ → ℕ} {out err : Stream} {status : Status} (t : Tells asked held before now out err status) where
@@ -330,11 +317,11 @@ module _ {asked : Option Shape} {held : List ℕ → Option (List ℕ)} {before 
   pub memory_cause : status ≡ Status.Memory → MemoryCause out err
   memory_cause = memory_of held before now out err status asked t.told t.may t.reaches
 
-  pub completes : Laws → Completes asked held before now out err status
-  completes laws = completes_of held before now out err status laws asked answers
+  pub completes : Laws → HasCapacity asked → Completes asked held before now out err status
+  completes laws some = completes_of held before now out err status laws asked some answers
 
-  pub compiles : Laws → Compiles asked held out err status
-  compiles laws = compiles_of held before now out err status laws asked t.told t.may t.reaches
+  pub compiles : Laws → HasCapacity asked → Compiles asked held out err status
+  compiles laws some = compiles_of held before now out err status laws asked some t.told t.may t.reaches
 
 -- ---- what was told
 

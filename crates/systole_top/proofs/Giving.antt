@@ -75,6 +75,16 @@ lists_length bytes g takes cell need has zero is = refl
 lists_length bytes g takes cell need has (suc n) is =
     length_push (lists_below g is.0 n) _ ∙ ap (λ k. k + 1) (lists_length bytes g takes cell need has n is) ∙ omega arith
 
+-- an input has a list for each cell
+lists_for : (bytes : List ℕ) (g : Extent) (takes : List ℕ) (inputs : List (List ℤ)) (has : HasInputs bytes g takes inputs) (n : ℕ)
+    → length (lists_below g has.reading.0 n) ≡ n
+lists_for bytes g takes inputs has zero = refl
+lists_for bytes g takes inputs has (suc n) =
+    length_push (lists_below g has.reading.0 n) _ ∙ ap (λ k. k + 1) (lists_for bytes g takes inputs has n) ∙ omega arith
+
+pub list_for_each : (bytes : List ℕ) (g : Extent) (takes : List ℕ) (inputs : List (List ℤ)) → HasInputs bytes g takes inputs → length inputs ≡ cell_count g
+list_for_each bytes g takes inputs has = ap length has.reading.5 ∙ lists_for bytes g takes inputs has (cell_count g)
+
 -- it is one of the grid
 pub placed : (bytes : List ℕ) (g : Extent) (takes : List ℕ) (e : InputError) → Refuses bytes g takes e → IsPlaced g e
 placed bytes g takes (E.Count cell need has) is =

@@ -9,6 +9,7 @@ use Rattle.accept.specs.Image.{IsImageOf}
 use Rattle.accept.specs.Needs.{AreNeeds, IsNeedRefused}
 use Rattle.accept.specs.declared.building.Built.{Built}
 use Rattle.accept.specs.declared.needing.NeedLine.{NeedLine}
+use Rattle.array_model.specs.Runs.{IsSure}
 use Rattle.cell_code.specs.Images.{IsListed, IsShaped}
 use Rattle.cell_code.specs.declared.image.Image.{Image}
 use Rattle.cell_types.specs.Alike.{Alike}
@@ -85,6 +86,7 @@ ready text b built (is, same) shaped listed faithful cheap alike =
     record {
       listed = listed text b.image is;
       shaped = shape;
+      sure = subst (IsSure b.image) (sym (ap (λ i. i.buffer) is.image_is)) (faithful text b.image is).sure;
       cost = subst (λ p. cells_cost p ≤ STEPS) (sym same) (cheap text b.image is);
       alike = subst Alike (sym same) (alike text b.image is);
       order = built.judged.ordered;

@@ -7,8 +7,15 @@ pub mod Told
 pub mod Inputs
 pub mod Asked
 pub mod Checked
-pub mod Meant
+pub mod Verdicts
+pub mod Shapes
+pub mod Numbers
+pub mod Prefixes
+pub mod Answered
+pub mod Ran
+pub mod Replying
 pub mod Every
+pub mod RunPut
 pub mod Compiled
 pub mod Clauses
 pub mod Judging

@@ -1,5 +1,6 @@
 -- Files that are longer than may be.
-use Rattle.std.proofs.Common.{◌≡◌, ◌<◌, ℕ, List, None, Some, length, refl, sym, ap, ◌∙◌, subst, inl, inr, arith}
+use Rattle.std.proofs.Common.{◌≡◌, ◌<◌, ℕ, List, Option, None, Some, IfSome, length, refl, sym, ap, ◌∙◌, subst, inl, inr, arith}
+use Rattle.std.proofs.lemmas.Option.{IfSome_then}
 use Rattle.std.proofs.lemmas.Bool.{cases_lt}
 use Rattle.std.proofs.lemmas.Bool.Decides.{nat_tests}
 use Rattle.refusals.specs.declared.refusal.Refusal.{Refusal}
@@ -21,6 +22,14 @@ whole_is limit bytes text read =
       | inl long ↦ absurd (let e = read ∙ within-long limit bytes long in cc)
       | inr short ↦ (let e = read ∙ within-whole limit bytes short in cc)
     ]
+
+-- what came of a file is told of it, where it is told
+abbrev pub IsHeld : Option (List ℕ) → List ℕ → Type 0
+IsHeld told text = IfSome told (λ bytes. bytes ≡ text)
+
+-- what was read whole of a file is what it holds
+pub held_whole : (told : Option (List ℕ)) (limit : ℕ) (text : List ℕ) → IfSome told (λ bytes. Some text ≡ within limit bytes) → IsHeld told text
+held_whole told limit text read = IfSome_then told read (λ bytes whole. whole_is limit bytes text whole)
 
 -- A text that is longer than a source is refused for that, and for nothing else.
 pub record RefusesLong {V : Type 0} (question : Question V) : Type 0 where

@@ -7,18 +7,21 @@ use Rattle.comm_sequence.specs.Meaning.{IsMeaning}
 use Rattle.object_io.specs.Objects.{object_text}
 use Rattle.refusals.specs.Explanations.{explanation}
 use Rattle.refusals.specs.declared.refusal.Refusal.{Refusal}
-use Rattle.sys_base.specs.declared.limits.TheConstants.{INPUT_BYTES}
+use Rattle.run_words.specs.Answers.{AnswersChoice, Choice, BuiltIn, OfFile, RunAnswer}
+use Rattle.sys_base.specs.declared.limits.TheConstants.{INPUT_BYTES, SCHEDULE_BYTES}
 use Rattle.sys_base.specs.declared.word.Word.{Word}
 use Rattle.sys_outside.specs.Fault.{Rose}
-use Rattle.systole_top.specs.Commands.{tree_of, files_of, silent, meaning_line}
+use Rattle.systole_top.specs.Commands.{tree_of, files_of, silent, mean_done, run_reply}
 use Rattle.systole_top.specs.Given.{Taken, Bad, IsGiven}
 use Rattle.systole_top.specs.Judgement.{Question, Plan, IsPlanOf, acceptance, needs}
 use Rattle.systole_top.specs.Reply.{Reply, Outcome, status_of, outcome_of, usage, unread, no_memory}
-use Rattle.systole_top.specs.Shape.{Shape, Check, Explain, Compile, Need, Mean}
+use Rattle.systole_top.specs.Shape.{Shape, Check, Explain, Compile, Need, Mean, Run}
+use Rattle.systole_top.specs.Shape.{Chosen, By, InFile, RunWords}
 use Rattle.systole_top.specs.Sides.{Stream, Reaches}
 use Rattle.systole_top.specs.Texts.{cannot_read, accepted_line, out_of_memory, refusal_line}
 use Rattle.systole_top.specs.Tree.{Replies, Comes, Tries, within}
 use Rattle.systole_top.specs.declared.answer.Verdict.{Verdict}
+use Rattle.systole_top.specs.declared.answer.Verdict.TheVariants as V
 use Rattle.systole_top.specs.declared.status.Status.{Status}
 
 -- ---- the answer
@@ -97,31 +100,53 @@ pub record IsChecked {V : Type 0} (question : Question V) (wanted : V → List �
   pub accepted : question.Passes text → IsOrFault Status.Done status
   pub first : (r : Refusal) → question.Refuses text r → IsOrFault Status.Refused status
 
--- What `mean` says of a text and an input, but for faults: Refused for the first refusal of the text, exactly where it
--- has one; else BadInput for the first rule that the input breaks, exactly where it breaks one; else Done, and the
--- words of the program's meaning for what the input gives.
-pub record IsMeant (text bytes : List ℕ) (out err : Stream) (status : Status) : Type 0 where
-  pub done : status ≡ Status.Done → (plan : Plan) × IsPlanOf text plan
-      × (inputs : List (List ℤ)) × IsGiven plan.image (within INPUT_BYTES bytes) (Taken inputs)
-      × (words : List (List Word)) × IsMeaning plan.program inputs words
-      × Appends out.told_before out.told_now (meaning_line plan.image words)
-      × Appends err.told_before err.told_now []
+-- What a command says of a text and an input by what it finds for an accepted text and the words that the input gives,
+-- but for faults: Refused for the first refusal of the text, exactly where it has one; else BadInput for the first rule
+-- that the input breaks, exactly where it breaks one; else what it says of what is found.
+pub record IsAnswered {X : Type 0} (Finds : Plan → List (List ℤ) → X → Type 0) (says : Plan → X → Reply)
+    (text bytes : List ℕ) (out err : Stream) (status : Status) : Type 0 where
   pub refused : status ≡ Status.Refused → (r : Refusal) × FirstRefusal text r
       × Appends out.told_before out.told_now [] × Appends err.told_before err.told_now (refusal_line r)
   pub bad : status ≡ Status.BadInput → (plan : Plan) × IsPlanOf text plan
       × (line : List ℕ) × IsGiven plan.image (within INPUT_BYTES bytes) (Bad line)
       × Appends out.told_before out.told_now [] × Appends err.told_before err.told_now line
+  pub found : (v : Verdict) → v ≢ V.Refused → v ≢ V.BadInput → status ≡ status_of v
+      → (plan : Plan) × IsPlanOf text plan
+      × (inputs : List (List ℤ)) × IsGiven plan.image (within INPUT_BYTES bytes) (Taken inputs)
+      × (x : X) × Finds plan inputs x × ((says plan x).verdict ≡ v)
+      × Appends out.told_before out.told_now (says plan x).out
+      × Appends err.told_before err.told_now (says plan x).err
   pub first : (r : Refusal) → FirstRefusal text r → IsOrFault Status.Refused status
   pub broken : (plan : Plan) (line : List ℕ) → IsPlanOf text plan
       → IsGiven plan.image (within INPUT_BYTES bytes) (Bad line) → IsOrFault Status.BadInput status
-  pub given : (plan : Plan) (inputs : List (List ℤ)) → IsPlanOf text plan
-      → IsGiven plan.image (within INPUT_BYTES bytes) (Taken inputs) → IsOrFault Status.Done status
+  pub finds : (plan : Plan) (inputs : List (List ℤ)) (x : X) → IsPlanOf text plan
+      → IsGiven plan.image (within INPUT_BYTES bytes) (Taken inputs) → Finds plan inputs x
+      → IsOrFault (status_of (says plan x).verdict) status
+
+-- what `mean` finds: the words of the program's meaning
+abbrev pub MeanFinds : Plan → List (List ℤ) → List (List Word) → Type 0
+MeanFinds plan inputs words = IsMeaning plan.program inputs words
+
+-- what `run` finds: the answer of the run that the schedule makes over the image
+abbrev pub RunFinds : RunWords → Choice → Plan → List (List ℤ) → RunAnswer → Type 0
+RunFinds words choice plan inputs answer = AnswersChoice plan.image words.capacity words.recorded inputs choice answer
+
+-- What `run` says of a text and an input, by a built-in schedule or by that of a file, where it is told.
+abbrev pub IsRun : (List ℕ → Option (List ℕ)) → RunWords → Chosen → (text bytes : List ℕ) → Stream → Stream → Status
+    → Type 0
+IsRun held words (By schedule) text bytes out err status =
+    IsAnswered (RunFinds words (BuiltIn schedule)) (λ plan. run_reply) text bytes out err status
+IsRun held words (InFile name) text bytes out err status =
+    IfSome (held name)
+    (λ entries. IsAnswered (RunFinds words (OfFile (within SCHEDULE_BYTES entries))) (λ plan. run_reply)
+    text bytes out err status)
 
 -- Where the words name a file F that is told, its text is checked. For a text without a refusal `check` and `explain`
 -- put `accepted` on standard output, and `compile` the object of its image. For another one `check` and `compile` put
 -- the line of the first refusal on standard error, and `explain` its explanation on standard output. `need` puts a line
 -- for each link with a group on standard output; it refuses as `check` does, but for want of queues or steps. `mean`
--- puts the meaning of the program for the input, where that is told too.
+-- puts the meaning of the program for the input, and `run` the result of the run that the schedule makes, where the
+-- files for them are told too.
 abbrev pub Checks : Option Shape → (List ℕ → Option (List ℕ)) → Stream → Stream → Status → Type 0
 Checks None held out err status = Unit {0}
 Checks (Some (Check file)) held out err status =
@@ -136,7 +161,11 @@ Checks (Some (Compile file)) held out err status =
 Checks (Some (Need file)) held out err status =
     IfSome (held file) (λ text. IsChecked needs need_lines silent refusal_line text out err status)
 Checks (Some (Mean file input)) held out err status =
-    IfSome (held file) (λ text. IfSome (held input) (λ bytes. IsMeant text bytes out err status))
+    IfSome (held file)
+    (λ text. IfSome (held input) (λ bytes. IsAnswered MeanFinds mean_done text bytes out err status))
+Checks (Some (Run words)) held out err status =
+    IfSome (held words.file)
+    (λ text. IfSome (held words.input) (λ bytes. IsRun held words words.chosen text bytes out err status))
 
 -- Words with no shape are a faulty command line, unless a put failed or memory ran out; others never are.
 abbrev pub UsageCause : Option Shape → Status → Type 0

@@ -3,7 +3,7 @@ use Rattle.std.specs.Prelude.{ℕ, List, []}
 use Rattle.systole_top.specs.Texts.{usage_line, out_of_memory}
 use Rattle.systole_top.specs.declared.status.Status.{Status}
 use Rattle.systole_top.specs.declared.answer.Verdict.{Verdict}
-use Rattle.systole_top.specs.declared.answer.Verdict.TheVariants.{Done, Refused, BadInput}
+use Rattle.systole_top.specs.declared.answer.Verdict.TheVariants.{Done, Refused, BadInput, Unfinished, BadSchedule}
 
 -- What a command says: its verdict, and the bytes for each side.
 pub record Reply : Type 0 where
@@ -22,6 +22,8 @@ abbrev pub status_of : Verdict → Status
 status_of Done = Status.Done
 status_of Refused = Status.Refused
 status_of BadInput = Status.BadInput
+status_of Unfinished = Status.Unfinished
+status_of BadSchedule = Status.BadSchedule
 
 abbrev pub outcome_of : Reply → Outcome
 outcome_of r = record { status = status_of r.verdict; out = r.out; err = r.err }

@@ -9,6 +9,8 @@ pub enum Verdict {
     Done,
     Refused,
     BadInput,
+    Unfinished,
+    BadSchedule,
 }
 
 /// Where a text goes.

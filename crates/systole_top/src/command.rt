@@ -1,6 +1,7 @@
 ghost use Rattle.systole_top.specs.Commands.{tree_of};
 ghost use Rattle.systole_top.specs.bodies.Runs.{Steps};
 ghost use Rattle.systole_top.specs.Shape.{seen};
+ghost use Rattle.systole_top.specs.bodies.Inputs.{CanBeAsked};
 ghost use Rattle.systole_top.specs.bodies.Stops.{ended, reply_of};
 
 use crate::answer::{Answer, Stop};
@@ -9,6 +10,7 @@ use crate::compile::compile;
 use crate::explain::explain;
 use crate::mean::mean;
 use crate::need::need;
+use crate::run::run;
 use crate::words::Command;
 use std::alloc::Global;
 use sys_outside::Shelf;
@@ -19,6 +21,7 @@ pub fn answer_command<S: Shelf>(
     shelf: &mut S,
     command: Command<'_>,
 ) -> Result<Answer, Stop>
+    requires { CanBeAsked command }
     ensures { Steps (S.held shelf.old) (S.held shelf.new) (S.faults shelf.old) (S.faults shelf.new)
         (tree_of (seen command.entry)) (ended reply_of result) }
 {
@@ -28,5 +31,6 @@ pub fn answer_command<S: Shelf>(
         Command::Compile(file) => compile(alloc, shelf, file),
         Command::Need(file) => need(alloc, shelf, file),
         Command::Mean(file, input) => mean(alloc, shelf, file, input),
+        Command::Run(words) => run(alloc, shelf, &words),
     }
 }

@@ -11,6 +11,8 @@ mod judgement;
 mod mean;
 mod need;
 mod read;
+mod request;
+mod run;
 mod say;
 mod status;
 mod top;

@@ -4,7 +4,7 @@ ghost use Rattle.cell_types.specs.Typed.{plain};
 ghost use Rattle.comm_sequence.specs.Meaning.{IsMeaning};
 ghost use Rattle.program_image.specs.Faithful.{inputs_of};
 ghost use Rattle.sys_base.specs.declared.word.Word.{Word};
-ghost use Rattle.systole_top.specs.Commands.{meaning_line, mean_reply, meant, tree_of};
+ghost use Rattle.systole_top.specs.Commands.{meaning_line, means, on_inputs, tree_of, with_input};
 ghost use Rattle.systole_top.specs.Given.{emits_of};
 ghost use Rattle.systole_top.specs.Only.{IsOnly};
 ghost use Rattle.systole_top.specs.Shape.{Mean};
@@ -45,7 +45,7 @@ fn meant<S: Shelf>(
 ) -> Result<Answer, Stop>
     requires { WhereReady judgement }
     ensures { Steps (S.held shelf.old) (S.held shelf.new) (S.faults shelf.old) (S.faults shelf.new)
-        (meant input.now (plan_of judgement)) (ended reply_of result) }
+        (with_input input.now means (plan_of judgement)) (ended reply_of result) }
 {
     match judgement {
         Judgement::Accepted(built) => meant_by(alloc, shelf, built, input),
@@ -63,7 +63,7 @@ fn meant_by<S: Shelf>(
 ) -> Result<Answer, Stop>
     requires { IsReady built }
     ensures { Steps (S.held shelf.old) (S.held shelf.new) (S.faults shelf.old) (S.faults shelf.new)
-        (meant input.now (Accepted (made_of built))) (ended reply_of result) }
+        (with_input input.now means (Accepted (made_of built))) (ended reply_of result) }
 {
     let given = given_in(alloc, shelf, &built.image, input)?;
     mean_reply(alloc, &built, given)
@@ -72,7 +72,7 @@ fn meant_by<S: Shelf>(
 fn mean_reply(alloc: Global, built: &Built, given: Given) -> Result<Answer, Stop>
     requires ready { IsReady built.now }
     requires counted { IsCountedIn built.now.image given }
-    ensures { Shows (mean_reply (made_of built.now) (given_by given)) (ended reply_of result) }
+    ensures { Shows (on_inputs (means (made_of built.now)) (given_by given)) (ended reply_of result) }
 {
     match given {
         Given::Taken(inputs) => Ok(Answer {

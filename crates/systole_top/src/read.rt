@@ -1,4 +1,4 @@
-ghost use Rattle.std.specs.Prelude.{◌≡◌, ◌^◌, ◌<◌, IfOk};
+ghost use Rattle.std.specs.Prelude.{◌≡◌, ◌^◌, ◌<◌, ◌≤◌, IfOk, IfSome, vec_len};
 ghost use Rattle.std.specs.Option.{option_map};
 ghost use Rattle.systole_top.specs.bodies.Runs.{Steps};
 ghost use Rattle.systole_top.specs.bodies.Stops.{bytes_of, ended};
@@ -17,8 +17,9 @@ pub fn read_file<S: Shelf>(
     limit: usize,
 ) -> Result<Option<Vec<u8>>, Stop>
     requires { limit < 2 ^ 32 }
-    ensures { Steps (S.held shelf.old) (S.held shelf.new) (S.faults shelf.old) (S.faults shelf.new)
+    ensures read { Steps (S.held shelf.old) (S.held shelf.new) (S.faults shelf.old) (S.faults shelf.new)
         (Reads name.now limit Gives) (ended (option_map bytes_of) result) }
+    ensures short { IfOk result (λ file. IfSome file (λ bytes. vec_len bytes ≤ limit)) }
 {
     let mut bytes = Vec::new(alloc);
     match shelf.fetch(name, limit, &mut bytes) {

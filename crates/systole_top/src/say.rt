@@ -48,6 +48,8 @@ fn status_of(verdict: Verdict) -> Status
         Verdict::Done => Status::Done,
         Verdict::Refused => Status::Refused,
         Verdict::BadInput => Status::BadInput,
+        Verdict::Unfinished => Status::Unfinished,
+        Verdict::BadSchedule => Status::BadSchedule,
     }
 }
 

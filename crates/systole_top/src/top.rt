@@ -9,6 +9,7 @@ use crate::say::{say, say_usage};
 use crate::status::Status;
 use crate::words::read_words;
 use accept::{accepted_or_refused, images_do_as_they_say, some_answer_of_needs, some_image};
+use run_words::{runs_have_one_answer, schedules_make_runs};
 use std::alloc::Global;
 use stream_io::one_input;
 use sys_outside::{Shelf, Sink};
@@ -34,6 +35,8 @@ pub fn systole<S: Shelf, O: Sink, E: Sink>(
     images_do_as_they_say();
     some_answer_of_needs();
     one_input();
+    runs_have_one_answer();
+    schedules_make_runs();
     tell(alloc, words, shelf, out, err)
 }
 

@@ -1,6 +1,7 @@
 -- What is known of an accepted source by those who use what is made of it.
 use Rattle.std.specs.Prelude.{◌≡◌, ◌≤◌, ⊤, ℤ, List, length}
 use Rattle.accept.specs.declared.building.Built.{Built}
+use Rattle.array_model.specs.Runs.{IsSure}
 use Rattle.array_model.specs.States.{IsCounted}
 use Rattle.cell_code.specs.Images.{IsListed, IsShaped}
 use Rattle.cell_types.specs.Alike.{Alike}
@@ -19,6 +20,7 @@ use Rattle.systole_top.specs.declared.judgement.Judgement.TheVariants.{Accepted,
 pub record IsReady (built : Built) : Type 0 where
   pub listed : IsListed built.image
   pub shaped : IsShaped built.image
+  pub sure : IsSure built.image built.image.buffer
   pub cost : cells_cost (plain built.program) ≤ STEPS
   pub alike : Alike (plain built.program)
   pub order : IsBufferedOrder (sequences_of (plain built.program)).lists (sequences_of (plain built.program)).ends

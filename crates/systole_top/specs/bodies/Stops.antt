@@ -4,6 +4,8 @@ use Rattle.std.specs.Global.{Global}
 use Rattle.accept.specs.declared.building.Built.{Built}
 use Rattle.accept.specs.declared.needing.NeedLine.{NeedLine}
 use Rattle.cell_types.specs.Typed.{plain}
+use Rattle.run_words.specs.declared.verdict.RunVerdict.{RunVerdict}
+use Rattle.run_words.specs.declared.verdict.RunVerdict.TheVariants as Ran
 use Rattle.systole_top.specs.Given.{Given, Taken, Bad}
 use Rattle.systole_top.specs.Judgement.{Plan}
 use Rattle.systole_top.specs.Reply.{Reply, Outcome, outcome_of, unread, no_memory}
@@ -65,3 +67,9 @@ lines_of (Refused r) = Refused r
 abbrev pub given_by : GivenFile → Given
 given_by (File.Taken inputs) = Taken inputs.cells
 given_by (File.Bad line) = Bad line.items
+
+-- where a verdict on a run is said
+abbrev pub side_of : RunVerdict → Side
+side_of Ran.Done = Side.Out
+side_of Ran.Unfinished = Side.Out
+side_of Ran.BadSchedule = Side.Err
