@@ -1,5 +1,5 @@
 -- What contracts see of a choice and of an answer.
-use Rattle.std.specs.Prelude.{ℕ, ◌<◌, ◌^◌, ⊤, List, [], Option, Some, None, vec_len, length}
+use Rattle.std.specs.Prelude.{◌<◌, ◌^◌, ⊤, Some, vec_len}
 use Rattle.std.specs.Option.{option_map}
 use Rattle.run_words.specs.Answers.{BuiltIn, OfFile, bad, told}
 use Rattle.run_words.specs.Answers.{Choice as AChoice, RunAnswer as AnAnswer}

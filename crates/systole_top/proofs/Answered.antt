@@ -1,5 +1,5 @@
 -- What the answers to a command with an input say of told files.
-use Rattle.std.proofs.Common.{◌≡◌, ◌≢◌, ℕ, ℤ, List, [], Option, Some, IfSome, IsSome, IsSomeAnd, refl, sym, ap, ◌∙◌, subst}
+use Rattle.std.proofs.Common.{◌≡◌, ◌≢◌, ℕ, ℤ, List, [], Option, Some, IsSome, IsSomeAnd, refl, sym, ◌∙◌, subst}
 use Rattle.std.specs.Io.KnownBytes.{Appends}
 use Rattle.accept.specs.FirstRefusal.{FirstRefusal}
 use Rattle.refusals.specs.declared.refusal.Refusal.{Refusal}

@@ -1,11 +1,11 @@
 -- From what a command's step did to what the top call promises.
-use Rattle.std.proofs.Common.{◌≡◌, ◌≢◌, ◌⊎◌, ℕ, List, Option, None, Some, IfSome, IsSome, IsSomeAnd, Contains, Result, Ok, Err, refl, sym, ap, ◌∙◌, subst, inl, inr, arith}
+use Rattle.std.proofs.Common.{◌≡◌, ◌⊎◌, ℕ, List, Option, None, Some, IfSome, IsSome, IsSomeAnd, Contains, Result, Ok, Err, refl, sym, ap, ◌∙◌, subst, inl, inr, arith}
 use Rattle.std.specs.Io.KnownBytes.{Appends}
 use Rattle.sys_outside.specs.Fault.{Rose}
 use Rattle.systole_top.specs.Causes.{IsAnswer, Names, IsUnread, May, Tells, Answers, Judges, Checks, UsageCause, ReadCause, MemoryCause, StoodStill, Completes}
 use Rattle.systole_top.specs.Commands.{tree_of, files_of}
 use Rattle.systole_top.specs.Correctness.{Compiles}
-use Rattle.systole_top.specs.Reply.{Reply, Outcome, status_of, outcome_of, usage, unread, no_memory}
+use Rattle.systole_top.specs.Reply.{Reply, Outcome, outcome_of, usage, unread, no_memory}
 use Rattle.systole_top.specs.bodies.Runs.{Unread, NoMemory, End, Gave, Stopped, Runs, Steps}
 use Rattle.systole_top.specs.Shape.{Shape}
 use Rattle.systole_top.specs.Sides.{Stream, Reaches, PutsOn}
@@ -14,7 +14,6 @@ use Rattle.systole_top.specs.Texts.{cannot_read, usage_line}
 use Rattle.systole_top.specs.Tree.{Tree, Gives, Reads, Picks, within, Replies, Comes, Tries, Asks}
 use Rattle.systole_top.specs.declared.answer.Answer.{Answer}
 use Rattle.systole_top.specs.declared.answer.Stop.{Stop}
-use Rattle.systole_top.specs.declared.answer.Verdict.{Verdict}
 use Rattle.systole_top.specs.declared.status.Status.{Status}
 use Rattle.systole_top.proofs.Asked.{asks, asks_tries}
 use Rattle.systole_top.proofs.Compiled.{compiles_of}

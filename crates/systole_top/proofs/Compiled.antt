@@ -1,5 +1,5 @@
 -- What `compile F`, `mean F IN` and `run F IN CAP SCHED` put with Done.
-use Rattle.std.proofs.Common.{◌≡◌, ◌≤◌, ℕ, ℤ, max, List, [], Option, None, Some, IfSome, sym, ap, ◌∙◌, subst, inl, inr}
+use Rattle.std.proofs.Common.{◌≡◌, ◌≤◌, ℕ, ℤ, max, List, Option, None, Some, IfSome, sym, ap, ◌∙◌, subst, inl, inr}
 use Rattle.std.specs.Io.KnownBytes.{Appends}
 use Rattle.sys_base.specs.declared.limits.TheConstants.{INPUT_BYTES, SOURCE_BYTES}
 use Rattle.systole_top.specs.Causes.{May}

@@ -42,11 +42,3 @@ module _ (least most : ℕ) (word : List ℕ) where
       when_not (bytes_eq (decimal n) word) (nat_le least n) (nat_le n most) n
       (λ a b c. outside (leb-true least n b) (leb-true n most c))
       ∙ value_is n small is
-
-  pub number_none : most < 2 ^ 64 → ((n : ℕ) → n < 2 ^ 64 → word ≡ decimal n → ⊥) → None ≡ number_in least most word
-  number_none small none =
-      let n = digits_value 10 word in
-      when_not (bytes_eq (decimal n) word) (nat_le least n) (nat_le n most) n
-      (λ a b c.
-      let below = leb-true n most c in
-      none n (omega arith) (sym ((bytes_eq-Decides (decimal n) word).0 a)))

@@ -1,7 +1,7 @@
 -- What `mean` and `run` find, and what follows on it.
-use Rattle.std.proofs.Common.{◌≡◌, ◌≢◌, ◌≤◌, ℕ, ℤ, max, List, Option, Some, IfSome, IsSomeAnd, refl, sym, ap, subst, arith}
+use Rattle.std.proofs.Common.{◌≡◌, ◌≢◌, ◌≤◌, ℕ, ℤ, max, List, Option, Some, IsSomeAnd, refl, sym, ap, subst, arith}
 use Rattle.array_model.specs.Runs.{IsSure}
-use Rattle.run_words.specs.Answers.{Choice, BuiltIn, OfFile, RunAnswer, capacity}
+use Rattle.run_words.specs.Answers.{Choice, BuiltIn, OfFile, RunAnswer}
 use Rattle.run_words.specs.declared.verdict.RunVerdict.{RunVerdict}
 use Rattle.run_words.specs.declared.verdict.RunVerdict.TheVariants as OfRun
 use Rattle.sys_base.specs.declared.limits.TheConstants.{SCHEDULE_BYTES}
@@ -12,7 +12,6 @@ use Rattle.systole_top.specs.Judgement.{Plan}
 use Rattle.systole_top.specs.Reply.{Reply}
 use Rattle.systole_top.specs.Shape.{Chosen, By, InFile, RunWords}
 use Rattle.systole_top.specs.Tree.{Replies, then_, within}
-use Rattle.systole_top.specs.declared.answer.Verdict.{Verdict}
 use Rattle.systole_top.specs.declared.answer.Verdict.TheVariants as V
 use Rattle.systole_top.proofs.Answered.{FindsSome, SaysFound}
 use Rattle.systole_top.proofs.Inputs.{counted, one_meaning}

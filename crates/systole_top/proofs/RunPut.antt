@@ -11,8 +11,8 @@ use Rattle.cell_types.specs.Resolved.{program_of}
 use Rattle.cell_types.specs.Solo.{emitted}
 use Rattle.comm_sequence.specs.Meaning.{IsMeaning, alone}
 use Rattle.program_image.specs.Faithful.{inputs_of}
-use Rattle.run_words.specs.Answers.{AnswersChoice, AnswersEntries, AnswersRun, BuiltIn, Choice, OfFile, ReadsSchedule, Reading, Fits, Breaks, RunAnswer, Says, capacity}
-use Rattle.run_words.specs.Results.{IsResultLine, Tells, record_text}
+use Rattle.run_words.specs.Answers.{AnswersEntries, AnswersRun, ReadsSchedule, Reading, Fits, Breaks, RunAnswer, Says, capacity}
+use Rattle.run_words.specs.Results.{IsResultLine, record_text}
 use Rattle.run_words.specs.Schedules.{Ending, Makes, Schedule, Finished, Unfinished, NotEnabled, Recorded}
 use Rattle.run_words.specs.declared.verdict.RunVerdict.{RunVerdict}
 use Rattle.run_words.specs.declared.verdict.RunVerdict.TheVariants as Ran
@@ -21,11 +21,10 @@ use Rattle.sys_base.specs.Groups.{below}
 use Rattle.sys_base.specs.declared.actor.Actor.{Actor}
 use Rattle.sys_base.specs.declared.limits.TheConstants.{SCHEDULE_BYTES}
 use Rattle.sys_base.specs.declared.word.Word.{Word}
-use Rattle.systole_top.specs.Commands.{choice_in, ran, run_reply, verdict_of}
+use Rattle.systole_top.specs.Commands.{choice_in, ran, verdict_of}
 use Rattle.systole_top.specs.Correctness.{IsAskedFor, IsRunPut}
 use Rattle.systole_top.specs.Given.{AreGiven}
 use Rattle.systole_top.specs.Judgement.{Plan, IsPlanOf}
-use Rattle.systole_top.specs.Only.{IsOnly}
 use Rattle.systole_top.specs.Reply.{Reply, outcome_of, status_of}
 use Rattle.systole_top.specs.Shape.{Chosen, By, InFile, RunWords}
 use Rattle.systole_top.specs.Sides.{Stream}

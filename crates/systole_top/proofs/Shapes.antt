@@ -4,7 +4,7 @@ use Rattle.std.specs.Bool.{⊤}
 use Rattle.std.proofs.lemmas.Bool.{leb-true}
 use Rattle.std.specs.Option.{option_and_then, option_map, option_or}
 use Rattle.std.specs.Str.Parse.{digits_value}
-use Rattle.systole_top.specs.Shape.{Shape, Check, Explain, Compile, Need, Mean, Run, RunWords, shape}
+use Rattle.systole_top.specs.Shape.{Shape, Check, Explain, Compile, Need, Mean, Run, shape}
 use Rattle.systole_top.specs.Shape.{Chosen, chosen_of, file_shape, files_shape, long_shape, number_in, run_shape, recorded_in, schedule_shape, short_shape}
 use Rattle.systole_top.specs.declared.request.TheConstants.{CAPACITY}
 

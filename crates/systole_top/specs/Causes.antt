@@ -101,8 +101,8 @@ pub record IsChecked {V : Type 0} (question : Question V) (wanted : V → List �
   pub first : (r : Refusal) → question.Refuses text r → IsOrFault Status.Refused status
 
 -- What a command says of a text and an input by what it finds for an accepted text and the words that the input gives,
--- but for faults: Refused for the first refusal of the text, exactly where it has one; else BadInput for the first rule
--- that the input breaks, exactly where it breaks one; else what it says of what is found.
+-- but for faults: Refused for the first refusal of the text, exactly where it has one; otherwise BadInput for the first
+-- rule that the input breaks, exactly where it breaks one; otherwise what it says of what is found.
 pub record IsAnswered {X : Type 0} (Finds : Plan → List (List ℤ) → X → Type 0) (says : Plan → X → Reply)
     (text bytes : List ℕ) (out err : Stream) (status : Status) : Type 0 where
   pub refused : status ≡ Status.Refused → (r : Refusal) × FirstRefusal text r

@@ -51,10 +51,10 @@ pub record IsMeaningPut (text bytes : List ℕ) (out err : Stream) : Type 0 wher
   pub put : Appends out.told_before out.told_now (meaning_line image words)
   pub alone : Appends err.told_before err.told_now []
 
--- The text is accepted, the bytes give inputs, and standard output gained the result line of a run, and its record where
--- that is asked for, and nothing else was put. The run is the one that the schedule makes of the text's image, each queue
--- having the capacity that is asked for and at least the program's buffer. It takes at most the steps of the bound that
--- is printed, every cell is at its end after it, and its outputs are the words of the program's meaning.
+-- The text is accepted, the bytes give inputs, and standard output gained the result line of a run, with its record
+-- where that is asked for, and nothing else was put. The run is the one that the schedule makes of the text's image,
+-- where each queue has the capacity that is asked for, and at least the program's buffer. It takes at most the steps of
+-- the bound that is printed, every cell is at its end after it, and its outputs are the words of the program's meaning.
 pub record IsRunPut (text bytes : List ℕ) (asked : ℕ) (schedule : Schedule) (recorded : Bool) (out err : Stream)
     : Type 0 where
   pub image : Image
@@ -81,8 +81,8 @@ IsAskedFor held (InFile name) schedule =
     × (entries : List Actor) × HasEntries bytes entries × (schedule ≡ Recorded entries)
 
 -- Where `compile F` is Done, there is a text that is compiled: that of the file F, where F is told. Where `mean F IN`
--- is Done, the meaning of such a text was put, for the bytes of the file IN, where IN is told; and where `run` is Done, the
--- result of the run that the schedule makes.
+-- is Done, the meaning of such a text was put, for the bytes of the file IN, where IN is told; and where `run` is Done,
+-- the result of the run that the schedule makes.
 abbrev pub Compiles : Option Shape → (List ℕ → Option (List ℕ)) → Stream → Stream → Status → Type 0
 Compiles None held out err status = Unit {0}
 Compiles (Some (Check file)) held out err status = Unit {0}

@@ -65,7 +65,8 @@ fn run_built<S: Shelf>(
     requires ready { IsReady built.now }
     requires asked { IsCapacity words.now.capacity }
     ensures { Steps (S.held shelf.old) (S.held shelf.new) (S.faults shelf.old) (S.faults shelf.new)
-        (with_input words.now.input.now (runs (asked_by words.now)) (Accepted (made_of built.now))) (ended reply_of result) }
+        (with_input words.now.input.now (runs (asked_by words.now)) (Accepted (made_of built.now)))
+        (ended reply_of result) }
 {
     let given = given_in(alloc, shelf, &built.image, words.input)?;
     run_given(alloc, shelf, built, given, words)

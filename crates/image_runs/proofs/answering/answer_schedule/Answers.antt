@@ -1,4 +1,4 @@
-use Rattle.std.proofs.Common.{◌≡◌, ℕ, ◌≤◌, [], sym, ap, subst, arith}
+use Rattle.std.proofs.Common.{◌≡◌, [], sym, ap, subst, arith}
 use Rattle.cell_code.specs.declared.image.Image.{Image}
 use Rattle.array_model.specs.States.{opening}
 use Rattle.array_sim.specs.Simulations.{IsAfter, cap_in}

@@ -1,5 +1,5 @@
 use Rattle.std.proofs.Common.{arith}
-use Rattle.systole_top.proofs.Numbers.{number_none, number_out, number_some}
+use Rattle.systole_top.proofs.Numbers.{number_out, number_some}
 use Rattle.systole_top.proofs.request.number_in.Goals as goal
 
 pub returns-then-number-least-clause-value : goal.returns-then-number-least-clause-value

@@ -1,7 +1,6 @@
-use Rattle.std.proofs.Common.{refl, sym, ap, ◌∙◌, inl, inr}
+use Rattle.std.proofs.Common.{ap, inl, inr}
 use Rattle.image_runs.specs.Views.{answer_of, choice_of}
 use Rattle.systole_top.specs.bodies.Runs.{Gave}
-use Rattle.systole_top.specs.bodies.Stops.{reply_of}
 use Rattle.systole_top.proofs.Ran.{enough}
 use Rattle.systole_top.proofs.Replying.{only_of, said_so}
 use Rattle.systole_top.proofs.run.run_reply.Goals as goal
