@@ -19,5 +19,6 @@ pub mod RunPut
 pub mod Compiled
 pub mod Clauses
 pub mod Judging
+pub mod SameOutputs
 pub mod Giving
 pub mod Needing

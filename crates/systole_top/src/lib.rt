@@ -1,6 +1,7 @@
 //! The commands of Systole, and the call that answers them.
 #![tactic(auto)]
 
+mod agreement;
 mod answer;
 mod check;
 mod command;
@@ -18,5 +19,6 @@ mod status;
 mod top;
 mod words;
 
+pub use agreement::runs_put_the_same_outputs;
 pub use status::Status;
 pub use top::systole;
